@@ -1,0 +1,47 @@
+-- The lemma that carries the computed test of the table to each of its entries, and so to each hash function.
+-- Assumes nothing.
+use Prim.Native.Nat.{ℕ, zero, suc, _+_, _<_}
+use mathlib.Core.Path.{_≡_, refl, sym, ap, _∙_}
+use mathlib.Core.Bool.{Bool, true, false, _&&_}
+use mathlib.Core.List.{List, [], _∷_}
+use native.Mathlib.Nat.{add-zero, zero-add, add-suc, suc-add, le-of-suc-le-suc, not-suc-le-zero}
+use native.Mathlib.Numerals.{add-one}
+use native.Mathlib.Omega.{arith}
+use borrow.Author.Tests.{eqb-true}
+use lib.Dec.{eqb}
+use lib.ListN.{length, getD}
+use Rattle.hash.specs.Position.{nextOf, z}
+use Rattle.hash.specs.Table.{follows, isTable}
+
+left : (a b : Bool) → (a && b) ≡ true → a ≡ true
+left true b t = refl
+left false b t = t
+
+right : (a b : Bool) → (a && b) ≡ true → b ≡ true
+right true b t = t
+right false b t = let n : _≡_ {A = ℕ} 0 1 = cc in absurd (omega arith)
+
+module _ (x before : ℕ) (xs : List ℕ) (t : follows before (x ∷ xs) ≡ true) where
+  head : x ≡ nextOf before
+  head = eqb-true x (nextOf before) (left (eqb x (nextOf before)) (follows x xs) t)
+
+  tail : follows x xs ≡ true
+  tail = right (eqb x (nextOf before)) (follows x xs) t
+
+from : (xs : List ℕ) (j before : ℕ) → before ≡ z j → follows before xs ≡ true → (k : ℕ) → k < length xs → getD xs k 0 ≡ z (suc (j + k))
+unfolding z
+from [] j before e t k h = absurd (not-suc-le-zero h)
+from (x ∷ xs) j before e t zero h = head x before xs t ∙ ap nextOf e ∙ ap z (ap suc (sym (add-zero j)))
+from (x ∷ xs) j before e t (suc k) h =
+    from xs (suc j) x (head x before xs t ∙ ap nextOf e) (tail x before xs t) k (le-of-suc-le-suc h)
+    ∙ ap z (ap suc (suc-add j k ∙ sym (add-suc j k)))
+
+pub table-length : (xs : List ℕ) → isTable xs ≡ true → length xs ≡ 128
+table-length xs t = eqb-true (length xs) 128 (left (eqb (length xs) 128) (follows 1 xs) t)
+
+-- the entry at k is z(k + 1)
+pub entry : (xs : List ℕ) → isTable xs ≡ true → (k : ℕ) → k < 128 → getD xs k 0 ≡ z (k + 1)
+unfolding z
+entry xs t k h =
+    from xs 0 1 refl (right (eqb (length xs) 128) (follows 1 xs) t) k (omega (arith, table-length xs t))
+    ∙ ap z (ap suc (zero-add k) ∙ sym (add-one k))

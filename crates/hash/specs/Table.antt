@@ -1,0 +1,16 @@
+-- Document 01: "z(1) to z(128) stand in a constant table, and its rule is wanted for all of it".
+use Prim.Native.Nat.{ℕ}
+use mathlib.Core.Bool.{Bool, true, _&&_}
+use mathlib.Core.List.{List, [], _∷_}
+use lib.Dec.{eqb}
+use lib.ListN.{length}
+use Rattle.hash.specs.Position.{nextOf}
+
+-- each entry is the generator's next value after the one before it
+abbrev pub follows : ℕ → List ℕ → Bool
+follows before [] = true
+follows before (x ∷ xs) = eqb x (nextOf before) && follows x xs
+
+-- the table begins behind z(0) = 1 and has 128 entries
+abbrev pub isTable : List ℕ → Bool
+isTable xs = eqb (length xs) 128 && follows 1 xs

@@ -1,0 +1,3 @@
+mod BigEndian
+mod LayoutLaws
+mod Outcomes

@@ -1,0 +1,25 @@
+-- `frame::big_endian::byte_at` meets its contract: past the end `getD` gives its default.
+-- Assumes nothing.
+use mathlib.Core.Path.{sym}
+use lib.ListN.{List·getD-eq-default}
+use denote.Ref.{now}
+use borrow.Author.Needs.{needs}
+use Rattle.frame.proofs.big_endian.byte_at.Statement.{statement}
+use Rattle.frame.proofs.big_endian.byte_at.Tie as tie
+use Rattle.frame.proofs.big_endian.byte_at.Reads as reads
+use Rattle.frame.proofs.big_endian.byte_at.Lts as lts
+
+-- src/big_endian.rt:12:27
+shared-slice-read-result : tie.Need-shared-slice-read-result
+shared-slice-read-result c = search needs
+
+-- src/big_endian.rt:9:1
+returns : tie.Need-returns
+returns c = search needs
+
+-- src/big_endian.rt:9:1
+returns-2 : tie.Need-returns-2
+returns-2 c = sym (List·getD-eq-default (now (c .before .args .bytes)) 0 (c .if1 .left))
+
+pub byte-at-spec : {M : Type 1} → statement M
+byte-at-spec = tie.close (tie.spec shared-slice-read-result returns returns-2)

@@ -1,0 +1,4 @@
+pub mod FieldMap
+pub mod Frames
+pub mod Answers
+pub mod Layouts

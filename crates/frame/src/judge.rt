@@ -1,0 +1,44 @@
+// The ranges of a frame's fields, judged in bit order.
+ghost use mathlib.Core.Path.{_≡_};
+ghost use Prim.Native.Nat.{ℕ};
+ghost use Rattle.refusal.specs.Judging.{both, outside};
+ghost use Rattle.frame.specs.Frames.{judged};
+ghost use Rattle.frame.specs.Layouts.{present, placesOf, paperJudged};
+use crate::Fields;
+use crate::layout::Layout;
+use refusal::Refusal;
+use refusal::tests::both_hold;
+use refusal::tests::is_outside;
+
+pub enum Judged {
+    Sound,
+    Refused(Refusal),
+}
+
+// The layout has the field and its number is outside the range.
+fn misfits(at: u32, low: u32, number: u32, high: u32) -> bool
+    ensures { λ r. ⌜ r ≡ both (present at) (outside low number high) ⌝ }
+{
+    both_hold(at != 0, is_outside(low, number, high))
+}
+
+pub fn judge(l: Layout, f: Fields) -> Judged
+    ensures { λ r. ⌜ paperJudged r ≡ judged (λ (i : ℕ). present (placesOf l i)) f ⌝ }
+{
+    if misfits(l.station, 1, f.station, 32) {
+        return Judged::Refused(Refusal::Station);
+    }
+    if misfits(l.number, 1, f.number, 16777215) {
+        return Judged::Refused(Refusal::Turn);
+    }
+    if misfits(l.point, 1, f.point, 2147483646) {
+        return Judged::Refused(Refusal::Address);
+    }
+    if misfits(l.action, 0, f.action, 2) {
+        return Judged::Refused(Refusal::Code);
+    }
+    if misfits(l.refusal, 1, f.refusal, 14) {
+        return Judged::Refused(Refusal::Code);
+    }
+    Judged::Sound
+}

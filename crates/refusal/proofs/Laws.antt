@@ -1,0 +1,51 @@
+-- Laws of the refusals' numbers: none is 0, so that 0 can mean "not refused", and each tells its row.
+-- Assumes nothing.
+use Prim.Native.Nat.{ℕ, _-_, _≤_}
+use mathlib.Core.Path.{_≡_, refl, sym, ap, _∙_}
+use mathlib.Core.List.{List, [], _∷_}
+use native.Mathlib.Omega.{arith}
+use lib.ListN.{getD}
+use Rattle.refusal.specs.declared.Refusal.{Refusal}
+use Rattle.refusal.specs.declared.Refusal.the-variants.{Misfit, Address, Reader, Engaged, Idle, NoPerch, Unknown, Length, Map, Station, Turn, Altered, Code, Short}
+use Rattle.refusal.specs.Refusals.{numberOf}
+use Rattle.refusal.specs.Judging.{refuseIf, orElse}
+
+-- the row of a number
+rowOf : ℕ → Refusal
+rowOf n = getD (Misfit ∷ Address ∷ Reader ∷ Engaged ∷ Idle ∷ NoPerch ∷ Unknown ∷ Length ∷ Map ∷ Station ∷ Turn ∷ Altered ∷ Code ∷ Short ∷ []) (n - 1) Misfit
+
+row-of-number : (r : Refusal) → rowOf (numberOf r) ≡ r
+unfolding rowOf
+row-of-number Misfit = refl
+row-of-number Address = refl
+row-of-number Reader = refl
+row-of-number Engaged = refl
+row-of-number Idle = refl
+row-of-number NoPerch = refl
+row-of-number Unknown = refl
+row-of-number Length = refl
+row-of-number Map = refl
+row-of-number Station = refl
+row-of-number Turn = refl
+row-of-number Altered = refl
+row-of-number Code = refl
+row-of-number Short = refl
+
+pub number-tells : (r s : Refusal) → numberOf r ≡ numberOf s → r ≡ s
+number-tells r s e = sym (row-of-number r) ∙ ap rowOf e ∙ row-of-number s
+
+pub number-positive : (r : Refusal) → 1 ≤ numberOf r
+number-positive Misfit = omega arith
+number-positive Address = omega arith
+number-positive Reader = omega arith
+number-positive Engaged = omega arith
+number-positive Idle = omega arith
+number-positive NoPerch = omega arith
+number-positive Unknown = omega arith
+number-positive Length = omega arith
+number-positive Map = omega arith
+number-positive Station = omega arith
+number-positive Turn = omega arith
+number-positive Altered = omega arith
+number-positive Code = omega arith
+number-positive Short = omega arith

@@ -62,7 +62,7 @@ kind-allowed CommandAnswer = refl
 kind-allowed QueryRefused = refl
 kind-allowed CommandRefused = refl
 
-start-positive : (map i : ℕ) → 1 ≤ start map i
+pub start-positive : (map i : ℕ) → 1 ≤ start map i
 unfolding start
 start-positive map zero = omega arith
 start-positive map (suc i) = omega (arith, start-positive map i)

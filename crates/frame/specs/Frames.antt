@@ -29,6 +29,18 @@ fieldsIn s map =
       refusal = fieldIn s map 5;
     }
 
+-- the fields as a frame of this map keeps them: one that the map lacks is lost in writing and "reads as 0"
+abbrev pub kept : ℕ → Fields → Fields
+kept map f =
+    record {
+      station = cond (hasBit map 0) (f .station) 0;
+      number = cond (hasBit map 1) (f .number) 0;
+      point = cond (hasBit map 2) (f .point) 0;
+      action = cond (hasBit map 3) (f .action) 0;
+      value = cond (hasBit map 4) (f .value) 0;
+      refusal = cond (hasBit map 5) (f .refusal) 0;
+    }
+
 -- the ranges "1 to 32", "1 to 16777215", of a point, of an action, "1 to 14", judged "in bit order" of those that the frame has
 unfoldable pub judged : (ℕ → Bool) → Fields → ℕ
 judged has f =

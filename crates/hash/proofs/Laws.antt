@@ -1,4 +1,5 @@
--- Laws of `positionOf` that callers cite in place of its text: what it is inside its range and outside, and that it is a slot's number.
+-- Laws of `coefficientOf` and `positionOf` that proofs cite in place of their text: what each is inside its range and outside, and
+-- that a position is a slot's number.
 -- Assumes nothing.
 use Prim.Native.Nat.{ℕ, _+_, _-_, _*_, _%_, _≤_, _<_}
 use mathlib.Core.Path.{_≡_, refl, sym, subst}
@@ -9,6 +10,7 @@ use native.Mathlib.Omega.{arith}
 use borrow.Author.Tests.{le-leb, lt-leb}
 use lib.Dec.{leb}
 use Rattle.hash.specs.Position.{z, carterWegman, positionOf, someFunction}
+use Rattle.hash.specs.Table.{coefficientOf}
 
 pub position-inside : (m q i : ℕ) → 1 ≤ m → 1 ≤ i → i ≤ 64 → positionOf m q i ≡ carterWegman (z (2 * i - 1)) (z (2 * i)) q m
 unfolding positionOf
@@ -35,6 +37,22 @@ module _ (m q i : ℕ) where
       above : (b : Bool) → (b && leb i 64) ≡ false
       above true = lt-leb i 64 h
       above false = refl
+
+pub coefficient-inside : (j : ℕ) → 1 ≤ j → j ≤ 128 → coefficientOf j ≡ z j
+unfolding coefficientOf
+coefficient-inside j h g = rw (le-leb 1 j h, le-leb j 128 g)
+
+pub coefficient-none : (j : ℕ) → j ≡ 0 → coefficientOf j ≡ 0
+unfolding coefficientOf
+coefficient-none j e = rw (lt-leb 1 j (omega arith))
+
+pub coefficient-past : (j : ℕ) → 128 < j → coefficientOf j ≡ 0
+unfolding coefficientOf
+coefficient-past j h = above (leb 1 j)
+  where
+    above : (b : Bool) → cond (b && leb j 128) (z j) 0 ≡ 0
+    above true = rw (lt-leb j 128 h)
+    above false = refl
 
 -- a position is the number of a slot
 pub position-below : (m q i : ℕ) → 1 ≤ m → positionOf m q i < m

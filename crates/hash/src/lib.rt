@@ -1,9 +1,9 @@
 // Where a point may sit: the Park-Miller generator, and the 64 hash functions that its values make.
 ghost use mathlib.Core.Path.{_≡_};
-ghost use Prim.Native.Nat.{_+_, _<_};
+ghost use Prim.Native.Nat.{_<_};
 ghost use mathlib.Core.Bool.{true};
 ghost use Rattle.hash.specs.Position.{nextOf, z, carterWegman, positionOf};
-ghost use Rattle.hash.specs.Table.{isTable};
+ghost use Rattle.hash.specs.Table.{isTable, coefficientOf};
 
 // z(1) to z(128), two for each hash function.
 const COEFFICIENTS: [u32; 128] = [
@@ -162,12 +162,17 @@ fn coefficients() -> [u32; 128]
     COEFFICIENTS
 }
 
-// z(at + 1), from the table.
-fn coefficient(at: u32) -> u32
-    requires { ⌜ at < 128 ⌝ }
-    ensures { λ r. ⌜ r ≡ z (at + 1) ⌝ }
+// z(j) from the table, 0 outside 1 to 128.
+pub fn coefficient(j: u32) -> u32
+    ensures { λ r. ⌜ r ≡ coefficientOf j ⌝ }
 {
-    coefficients()[at as usize]
+    if j == 0 {
+        return 0;
+    }
+    if 128 < j {
+        return 0;
+    }
+    coefficients()[(j - 1) as usize]
 }
 
 // Position `index` of a point in a table of `slots`: below `slots`, or 0 where there is no such
@@ -184,8 +189,12 @@ pub fn position(slots: u32, point: u32, index: u32) -> u32
     if 64 < index {
         return 0;
     }
-    let at = 2 * index - 2;
-    mixed(coefficient(at), coefficient(at + 1), point, slots)
+    mixed(
+        coefficient(2 * index - 1),
+        coefficient(2 * index),
+        point,
+        slots,
+    )
 }
 
 // ((a q + b) mod p) mod m

@@ -1,7 +1,7 @@
 -- A layout of an allowed map gives the field map's own fields, ranges and bytes, so that reading and writing by a layout is reading
 -- and writing by the field map.
 -- Assumes nothing.
-use Prim.Native.Nat.{ℕ, zero, suc, _+_, _≤_, _<_}
+use Prim.Native.Nat.{ℕ, zero, suc, _+_, _≤_}
 use mathlib.Core.Path.{_≡_, refl, sym, ap, ap₂, _∙_}
 use mathlib.Core.Bool.{Bool, true, false, cond, not, _||_}
 use mathlib.Core.List.{List, [], _∷_, _++_, append-nil}
@@ -16,9 +16,8 @@ use Rattle.frame.specs.declared.Kind.{Kind}
 use Rattle.frame.specs.declared.Kind.the-variants.{Query, Command, Value, CommandAnswer, QueryRefused, CommandRefused}
 use Rattle.frame.specs.declared.Fields.{Fields}
 use Rattle.frame.specs.declared.layout.Layout.{Layout}
-use Rattle.frame.specs.declared.layout.MapByte.{MapByte}
 use Rattle.frame.specs.declared.layout.MapByte.the-variants.{Frame, NotAllowed}
-use Rattle.frame.specs.FieldMap.{width, hasBit, size, start, lengthOf, bigEndian, bytesOf, mapOf, kinds, isMapOf, allowed}
+use Rattle.frame.specs.FieldMap.{width, hasBit, start, lengthOf, bigEndian, bytesOf, mapOf, kinds, isMapOf, allowed}
 use Rattle.frame.specs.Frames.{fieldIn, fieldsIn, judged, readRefusal, handed, readFrame, fieldOf, part, bytesUpTo, encode}
 use Rattle.frame.specs.Layouts.{place, laid, among, layoutOf, present, placesOf, numberAt, fieldsAt, readingBy, put, putFrame}
 use Rattle.frame.proofs.BigEndian.{length-bytes, sets-append}

@@ -1,8 +1,8 @@
 -- What the reader's and the writer's definitions come to in each case that the code tells apart.
 -- Assumes nothing.
 use Prim.Native.Nat.{ℕ, zero, suc, _≤_, _<_}
-use mathlib.Core.Path.{_≡_, refl, sym, ap, _∙_}
-use mathlib.Core.Bool.{Bool, true, false}
+use mathlib.Core.Path.{_≡_, refl}
+use mathlib.Core.Bool.{false}
 use mathlib.Core.List.{List}
 use native.Mathlib.Omega.{arith}
 use borrow.Author.Tests.{eq-eqb, lt-ltb, le-ltb}
@@ -11,10 +11,9 @@ use lib.ListN.{length}
 use Rattle.refusal.specs.Judging.{refuseIf, orElse}
 use Rattle.frame.specs.declared.Kind.{Kind}
 use Rattle.frame.specs.declared.Fields.{Fields}
-use Rattle.frame.specs.declared.Reading.{Reading}
 use Rattle.frame.specs.declared.layout.Layout.{Layout}
 use Rattle.frame.specs.FieldMap.{lengthOf, mapOf, allowed}
-use Rattle.frame.specs.Frames.{judged, noFields, handed, writeRefusal, Writing, wrote, writeFrame}
+use Rattle.frame.specs.Frames.{judged, noFields, handed, writeRefusal, wrote, writeFrame}
 use Rattle.frame.specs.Layouts.{laid, present, placesOf, fieldsAt, readingBy, putFrame}
 use Rattle.frame.proofs.LayoutLaws.{kind-allowed, judged-laid, put-laid}
 

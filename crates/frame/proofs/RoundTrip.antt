@@ -6,9 +6,9 @@ use mathlib.Core.Path.{_≡_, refl, sym, ap, ap₂, _∙_}
 use mathlib.Core.Bool.{Bool, true, false, cond, not}
 use mathlib.Core.List.{List, [], _∷_, _++_, append-assoc, append-nil}
 use mathlib.Core.Logic.{_⊎_, ⊎-elim}
-use native.Mathlib.Nat.{add-zero, eq-or-lt-of-le, le-of-suc-le-suc}
+use native.Mathlib.Nat.{eq-or-lt-of-le, le-of-suc-le-suc}
 use native.Mathlib.Omega.{arith}
-use borrow.Author.Tests.{eq-eqb, ne-eqb, eqb-true, eqb-false, not-false, le-ltb, ltb-false}
+use borrow.Author.Tests.{eq-eqb, ne-eqb, eqb-true, not-false, le-ltb, ltb-false}
 use lib.Dec.{eqb, ltb}
 use lib.ListN.{length, getD, take, drop}
 use lib.Seq.{take-add, take-length, take-at}
@@ -16,7 +16,7 @@ use Rattle.refusal.specs.Judging.{refuseIf, orElse}
 use Rattle.frame.specs.declared.Fields.{Fields}
 use Rattle.frame.specs.declared.Reading.{Reading}
 use Rattle.frame.specs.FieldMap.{width, hasBit, size, start, lengthOf, bigEndian, bytesOf, allowed}
-use Rattle.frame.specs.Frames.{fieldIn, fieldOf, fieldsIn, kept, judged, readRefusal, handed, readFrame, part, bytesUpTo, encode, writeRefusal, Writing, wrote, writeFrame}
+use Rattle.frame.specs.Frames.{fieldIn, fieldOf, fieldsIn, kept, judged, readRefusal, handed, readFrame, part, bytesUpTo, encode, writeRefusal, wrote, writeFrame}
 use Rattle.frame.proofs.BigEndian.{Bytes, read-back, write-back}
 use Rattle.frame.proofs.Judged.{InRange, not-refused, judged-sound, judged-kept}
 use Rattle.frame.proofs.LayoutLaws.{start-positive, length-upTo}

@@ -13,7 +13,7 @@ fn byte_at(bytes: &[u8], at: usize) -> u8
 }
 
 // The number of `width` bytes at a place.
-pub fn number_at(bytes: &[u8], at: u32, width: u32) -> u32
+pub(crate) fn number_at(bytes: &[u8], at: u32, width: u32) -> u32
     requires { ⌜ width ≤ 4 ⌝ }
     ensures { λ r. ⌜ r ≡ numberAt (now (bytes .entry)) at width ⌝ }
 {
@@ -28,7 +28,7 @@ pub fn number_at(bytes: &[u8], at: u32, width: u32) -> u32
 }
 
 // Stores a byte of a slice, nothing past its end.
-pub fn put_byte(out: &mut [u8], at: usize, byte: u8)
+pub(crate) fn put_byte(out: &mut [u8], at: usize, byte: u8)
     ensures { λ r. ⌜ now (out .exit) ≡ set (now (out .entry)) at byte ⌝ }
 {
     if at < out.len() {
@@ -37,7 +37,7 @@ pub fn put_byte(out: &mut [u8], at: usize, byte: u8)
 }
 
 // Stores the last `width` bytes of a number at a place.
-pub fn put_number(out: &mut [u8], at: u32, width: u32, number: u32)
+pub(crate) fn put_number(out: &mut [u8], at: u32, width: u32, number: u32)
     ensures { λ r. ⌜ now (out .exit) ≡ put at width number (now (out .entry)) ⌝ }
 {
     if at == 0 {

@@ -10,7 +10,7 @@ use refusal::Refusal;
 use refusal::tests::both_hold;
 use refusal::tests::is_outside;
 
-pub enum Judged {
+pub(crate) enum Judged {
     Sound,
     Refused(Refusal),
 }
@@ -22,7 +22,7 @@ fn misfits(at: u32, low: u32, number: u32, high: u32) -> bool
     both_hold(at != 0, is_outside(low, number, high))
 }
 
-pub fn judge(l: Layout, f: Fields) -> Judged
+pub(crate) fn judge(l: Layout, f: Fields) -> Judged
     ensures { λ r. ⌜ paperJudged r ≡ judged (λ (i : ℕ). present (placesOf l i)) f ⌝ }
 {
     if misfits(l.station, 1, f.station, 32) {

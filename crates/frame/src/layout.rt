@@ -4,7 +4,7 @@ ghost use Rattle.frame.specs.Layouts.{layoutOf};
 use crate::Kind;
 
 // The places of a frame's fields, 0 where the map lacks one.
-pub struct Layout {
+pub(crate) struct Layout {
     pub kind: Kind,
     pub length: u32,
     pub station: u32,
@@ -15,12 +15,12 @@ pub struct Layout {
     pub refusal: u32,
 }
 
-pub enum MapByte {
+pub(crate) enum MapByte {
     Frame(Layout),
     NotAllowed,
 }
 
-pub fn layout_of(map: u32) -> MapByte
+pub(crate) fn layout_of(map: u32) -> MapByte
     ensures { λ r. ⌜ r ≡ layoutOf map ⌝ }
 {
     match map {

@@ -1,5 +1,5 @@
 -- Document 01: "z(1) to z(128) stand in a constant table, and its rule is wanted for all of it".
-use Prim.Native.Nat.{ℕ, zero, suc}
+use Prim.Native.Nat.{ℕ}
 use mathlib.Core.Bool.{Bool, true, cond, _&&_}
 use mathlib.Core.List.{List, [], _∷_}
 use lib.Dec.{eqb, leb}

@@ -1,14 +1,14 @@
--- Laws of the refusals' numbers: none is 0, so that 0 can mean "not refused", and each tells its row.
+-- Laws of the refusals: no number is 0, so that 0 can mean "not refused"; a number tells its row; a word's letters are in its array.
 -- Assumes nothing.
 use Prim.Native.Nat.{ℕ, _-_, _≤_}
 use mathlib.Core.Path.{_≡_, refl, sym, ap, _∙_}
 use mathlib.Core.List.{List, [], _∷_}
 use native.Mathlib.Omega.{arith}
-use lib.ListN.{getD}
+use lib.ListN.{length, getD, replicate, length-append}
 use Rattle.refusal.specs.declared.Refusal.{Refusal}
 use Rattle.refusal.specs.declared.Refusal.the-variants.{Misfit, Address, Reader, Engaged, Idle, NoPerch, Unknown, Length, Map, Station, Turn, Altered, Code, Short}
-use Rattle.refusal.specs.Refusals.{numberOf}
-use Rattle.refusal.specs.Judging.{refuseIf, orElse}
+use Rattle.refusal.specs.declared.Word.{Word}
+use Rattle.refusal.specs.Refusals.{numberOf, wordOf, codes, spelt}
 
 -- the row of a number
 rowOf : ℕ → Refusal
@@ -49,3 +49,9 @@ number-positive Turn = omega arith
 number-positive Altered = omega arith
 number-positive Code = omega arith
 number-positive Short = omega arith
+
+spelt-fits : (l : List ℕ) → spelt l .length ≤ length (spelt l .letters)
+spelt-fits l = omega (arith, length-append l (replicate (8 - length l) 0))
+
+pub word-fits : (w : Word) (r : Refusal) → w ≡ spelt (codes (wordOf r)) → w .length ≤ length (w .letters)
+word-fits w r e = rw e (spelt-fits (codes (wordOf r)))

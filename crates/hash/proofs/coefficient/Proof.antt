@@ -9,39 +9,28 @@ use Rattle.hash.proofs.Table.{entry}
 use borrow.Author.Needs.{needs}
 use Rattle.hash.proofs.coefficient.Statement.{statement}
 use Rattle.hash.proofs.coefficient.Tie as tie
-use Rattle.hash.proofs.coefficient.Reads as reads
-use Rattle.hash.proofs.coefficient.Lts as lts
-use Rattle.hash.proofs.coefficients.Reads as coefficients-reads
 
--- src/lib.rt:170:9
 returns : tie.Need-returns
 returns c = sym (coefficient-none (c .before .args .j) (c .if1 .taken))
 
--- src/lib.rt:173:9
 returns-2 : tie.Need-returns-2
 returns-2 c = sym (coefficient-past (c .before .before .args .j) (c .if2 .taken))
 
--- src/lib.rt:175:5
 coefficients-requires : tie.Need-coefficients-requires
 coefficients-requires c κs = search needs
 
--- src/lib.rt:175:21
 sub-result : tie.Need-sub-result
 sub-result c = search needs
 
--- src/lib.rt:175:20
 cast-result : tie.Need-cast-result
 cast-result c = search needs
 
--- src/lib.rt:175:5
 mul-result : tie.Need-mul-result
 mul-result c = search needs
 
--- src/lib.rt:175:5
 array-read-result : tie.Need-array-read-result
 array-read-result c = search needs
 
--- src/lib.rt:166:1
 returns-3 : tie.Need-returns-3
 returns-3 c =
     let j = c .before .before .before .args .j in

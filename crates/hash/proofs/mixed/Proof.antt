@@ -7,26 +7,19 @@ use Rattle.hash.proofs.Products.{product}
 use borrow.Author.Needs.{needs}
 use Rattle.hash.proofs.mixed.Statement.{statement}
 use Rattle.hash.proofs.mixed.Tie as tie
-use Rattle.hash.proofs.mixed.Reads as reads
-use Rattle.hash.proofs.mixed.Lts as lts
 
--- src/lib.rt:187:15
 mul-sum : tie.Need-mul-sum
 mul-sum c = record { fits = let h = product (c .args .a) (c .args .point) (c .fits .a .fits) (c .fits .point .fits) in omega arith }
 
--- src/lib.rt:187:15
 add-sum : tie.Need-add-sum
 add-sum c = record { fits = let h = product (c .args .a) (c .args .point) (c .fits .a .fits) (c .fits .point .fits) in omega arith }
 
--- src/lib.rt:188:6
 rem-result : tie.Need-rem-result
 rem-result c = search needs
 
--- src/lib.rt:188:5
 cast-result : tie.Need-cast-result
 cast-result c = record { fits = omega (arith, mod-lt ((c .args .a * c .args .point + c .args .b) % 2147483647) {m = c .args .slots} (c .pre)) }
 
--- src/lib.rt:183:1
 returns : tie.Need-returns
 returns c = search needs
 

@@ -6,18 +6,13 @@ use denote.Ref.{now}
 use borrow.Author.Needs.{needs}
 use Rattle.frame.proofs.big_endian.byte_at.Statement.{statement}
 use Rattle.frame.proofs.big_endian.byte_at.Tie as tie
-use Rattle.frame.proofs.big_endian.byte_at.Reads as reads
-use Rattle.frame.proofs.big_endian.byte_at.Lts as lts
 
--- src/big_endian.rt:12:27
 shared-slice-read-result : tie.Need-shared-slice-read-result
 shared-slice-read-result c = search needs
 
--- src/big_endian.rt:9:1
 returns : tie.Need-returns
 returns c = search needs
 
--- src/big_endian.rt:9:1
 returns-2 : tie.Need-returns-2
 returns-2 c = sym (List·getD-eq-default (now (c .before .args .bytes)) 0 (c .if1 .left))
 

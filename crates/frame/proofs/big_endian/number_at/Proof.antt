@@ -11,9 +11,6 @@ use Rattle.frame.proofs.BigEndian.{below-three}
 use Rattle.frame.specs.Layouts.{numberAt}
 use Rattle.frame.proofs.big_endian.number_at.Statement.{statement}
 use Rattle.frame.proofs.big_endian.number_at.Tie as tie
-use Rattle.frame.proofs.big_endian.number_at.Reads as reads
-use Rattle.frame.proofs.big_endian.number_at.Lts as lts
-use Rattle.frame.proofs.big_endian.byte_at.Reads as byte-at-reads
 
 abbrev Inv-loop : tie.InvT-loop
 Inv-loop bytes at width number₀ i₀ number i = (i ≤ width) × (number ≡ bigEndian bytes at i)
@@ -21,17 +18,14 @@ Inv-loop bytes at width number₀ i₀ number i = (i ≤ width) × (number ≡ b
 abbrev μ-loop : tie.MeasureT-loop
 μ-loop bytes at width number₀ i₀ number i = width - i
 
--- src/big_endian.rt:21:9
 returns : tie.Need-returns Inv-loop μ-loop
 unfolding numberAt
 returns c = rw (eq-eqb _ _ (c .if1 .taken))
 
--- src/big_endian.rt:24:5
 loop-holds : tie.Need-loop-holds Inv-loop μ-loop
 unfolding bigEndian
 loop-holds c = (omega arith, refl)
 
--- src/big_endian.rt:25:18
 mul-number : tie.Need-mul-number Inv-loop μ-loop
 mul-number c =
     let a = c .before .before .before .before .args in
@@ -41,23 +35,18 @@ mul-number c =
     (omega arith) in
     omega arith
 
--- src/big_endian.rt:25:62
 cast-byte-at : tie.Need-cast-byte-at Inv-loop μ-loop
 cast-byte-at c = omega arith
 
--- src/big_endian.rt:25:48
 add-byte-at : tie.Need-add-byte-at Inv-loop μ-loop
 add-byte-at c = omega arith
 
--- src/big_endian.rt:25:33
 byte-at-requires : tie.Need-byte-at-requires Inv-loop μ-loop
 byte-at-requires c κs = tt
 
--- src/big_endian.rt:25:33
 cast-number : tie.Need-cast-number Inv-loop μ-loop
 cast-number c = omega arith
 
--- src/big_endian.rt:25:18
 add-number : tie.Need-add-number Inv-loop μ-loop
 add-number c =
     let a = c .before .before .before .before .before .args in
@@ -67,20 +56,16 @@ add-number c =
     (omega arith) in
     omega arith
 
--- src/big_endian.rt:24:9
 add-i : tie.Need-add-i Inv-loop μ-loop
 add-i c = omega arith
 
--- src/big_endian.rt:24:5
 loop-less : tie.Need-loop-less Inv-loop μ-loop
 loop-less c = omega arith
 
--- src/big_endian.rt:24:5
 loop-again : tie.Need-loop-again Inv-loop μ-loop
 unfolding bigEndian
 loop-again c = (omega arith, rw (add-one, c .before .before .loop .inv .1, c .byte-at .ensures))
 
--- src/big_endian.rt:16:1
 returns-2 : tie.Need-returns-2 Inv-loop μ-loop
 unfolding numberAt
 returns-2 c =

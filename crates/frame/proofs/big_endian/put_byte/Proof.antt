@@ -6,22 +6,16 @@ use denote.Ref.{now}
 use borrow.Author.Needs.{needs}
 use Rattle.frame.proofs.big_endian.put_byte.Statement.{statement}
 use Rattle.frame.proofs.big_endian.put_byte.Tie as tie
-use Rattle.frame.proofs.big_endian.put_byte.Reads as reads
-use Rattle.frame.proofs.big_endian.put_byte.Lts as lts
 
--- src/big_endian.rt:35:9
 slice-write-out : tie.Need-slice-write-out
 slice-write-out c = search needs
 
--- src/big_endian.rt:31:1
 same-length : tie.Need-same-length
 same-length c = search needs
 
--- src/big_endian.rt:31:1
 returns : tie.Need-returns
 returns c = search needs
 
--- src/big_endian.rt:31:1
 returns-2 : tie.Need-returns-2
 returns-2 c = sym (set-out (now (c .before .args .out)) (c .before .args .at) (c .before .args .byte) (c .if1 .left))
 

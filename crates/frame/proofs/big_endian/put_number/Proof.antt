@@ -11,9 +11,6 @@ use Rattle.frame.specs.Layouts.{put}
 use Rattle.frame.proofs.BigEndian.{put-last}
 use Rattle.frame.proofs.big_endian.put_number.Statement.{statement}
 use Rattle.frame.proofs.big_endian.put_number.Tie as tie
-use Rattle.frame.proofs.big_endian.put_number.Reads as reads
-use Rattle.frame.proofs.big_endian.put_number.Lts as lts
-use Rattle.frame.proofs.big_endian.put_byte.Reads as put-byte-reads
 
 abbrev Inv-loop : tie.InvT-loop
 Inv-loop out₀ at width number left₀ rest₀ out left rest =
@@ -22,40 +19,31 @@ Inv-loop out₀ at width number left₀ rest₀ out left rest =
 abbrev μ-loop : tie.MeasureT-loop
 μ-loop out₀ at width number left₀ rest₀ out left rest = left
 
--- src/big_endian.rt:44:9
 returns : tie.Need-returns Inv-loop μ-loop
 unfolding put
 returns c = rw (eq-eqb _ _ (c .if1 .taken))
 
--- src/big_endian.rt:48:5
 loop-holds : tie.Need-loop-holds Inv-loop μ-loop
 loop-holds c = (omega arith, refl, refl)
 
--- src/big_endian.rt:49:9
 sub-left : tie.Need-sub-left Inv-loop μ-loop
 sub-left c = omega arith
 
--- src/big_endian.rt:50:37
 cast-put-byte : tie.Need-cast-put-byte Inv-loop μ-loop
 cast-put-byte c = omega arith
 
--- src/big_endian.rt:50:23
 add-put-byte : tie.Need-add-put-byte Inv-loop μ-loop
 add-put-byte c = omega arith
 
--- src/big_endian.rt:50:52
 cast-put-byte-2 : tie.Need-cast-put-byte-2 Inv-loop μ-loop
 cast-put-byte-2 c = omega arith
 
--- src/big_endian.rt:50:9
 put-byte-requires : tie.Need-put-byte-requires Inv-loop μ-loop
 put-byte-requires c κs = tt
 
--- src/big_endian.rt:48:5
 loop-less : tie.Need-loop-less Inv-loop μ-loop
 loop-less c = omega arith
 
--- src/big_endian.rt:48:5
 loop-again : tie.Need-loop-again Inv-loop μ-loop
 loop-again c =
     let o = c .before .before .before .before .before .loop in
@@ -66,11 +54,9 @@ loop-again c =
       rw (c .before .before .put-byte .ensures, p, e) (o .inv .2),
     )
 
--- src/big_endian.rt:40:1
 same-length : tie.Need-same-length Inv-loop μ-loop
 same-length c = c .before .loop .inv .1
 
--- src/big_endian.rt:40:1
 returns-2 : tie.Need-returns-2 Inv-loop μ-loop
 unfolding put bytesOf
 returns-2 c =

@@ -4,20 +4,13 @@ use mathlib.Core.Path.{_∙_}
 use borrow.Author.Needs.{needs}
 use Rattle.frame.proofs.c_interface.jizkorma_frame_read.Statement.{statement}
 use Rattle.frame.proofs.c_interface.jizkorma_frame_read.Tie as tie
-use Rattle.frame.proofs.c_interface.jizkorma_frame_read.Reads as reads
-use Rattle.frame.proofs.c_interface.jizkorma_frame_read.Lts as lts
-use Rattle.frame.proofs.ReadAnswer.numbers.Reads as numbers-reads
-use Rattle.frame.proofs.reader.read.Reads as read-reads
 
--- src/c_interface.rt:24:17
 read-requires : tie.Need-read-requires
 read-requires c κs = search needs
 
--- src/c_interface.rt:24:9
 numbers-requires : tie.Need-numbers-requires
 numbers-requires c κs = search needs
 
--- src/c_interface.rt:11:1
 returns : tie.Need-returns
 returns c = c .before .numbers .ensures ∙ c .before .before .read .ensures
 

@@ -7,42 +7,30 @@ use Rattle.frame.specs.Answers.{paperWrite, writing}
 use borrow.Author.Needs.{needs}
 use Rattle.frame.proofs.c_interface.jizkorma_frame_write.Statement.{statement}
 use Rattle.frame.proofs.c_interface.jizkorma_frame_write.Tie as tie
-use Rattle.frame.proofs.c_interface.jizkorma_frame_write.Reads as reads
-use Rattle.frame.proofs.c_interface.jizkorma_frame_write.Lts as lts
-use Rattle.frame.proofs.writer.write.Reads as write-reads
-use Rattle.refusal.proofs.Refusal.number.Reads as number-reads
 
--- src/c_interface.rt:58:11
 write-requires : tie.Need-write-requires
 write-requires c κs = search needs
 
--- src/c_interface.rt:59:30
 enum-known-n : tie.Need-enum-known-n
 enum-known-n c = search needs
 
--- src/c_interface.rt:63:30
 enum-known-r : tie.Need-enum-known-r
 enum-known-r c = search needs
 
--- src/c_interface.rt:65:13
 number-requires : tie.Need-number-requires
 number-requires c κs = search needs
 
--- src/c_interface.rt:36:1
 same-length : tie.Need-same-length
 same-length c = search needs
 
--- src/c_interface.rt:36:1
 returns : tie.Need-returns
 returns c =
     let out = c .before .before .before .before .before .write .last .0 in
     ap (λ (w : WriteAnswer). paperWrite w out) (sym (c .before .n .given .1)) ∙ c .before .before .before .before .before .write .ensures
 
--- src/c_interface.rt:36:1
 same-length-2 : tie.Need-same-length-2
 same-length-2 c = search needs
 
--- src/c_interface.rt:36:1
 returns-2 : tie.Need-returns-2
 returns-2 c =
     let out = c .before .before .before .before .before .before .write .last .0 in

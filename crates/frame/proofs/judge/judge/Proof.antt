@@ -6,26 +6,19 @@ use Rattle.frame.specs.Frames.{judged}
 use borrow.Author.Needs.{needs}
 use Rattle.frame.proofs.judge.judge.Statement.{statement}
 use Rattle.frame.proofs.judge.judge.Tie as tie
-use Rattle.frame.proofs.judge.judge.Reads as reads
-use Rattle.frame.proofs.judge.judge.Lts as lts
-use Rattle.frame.proofs.judge.misfits.Reads as misfits-reads
 
--- src/judge.rt:28:8
 misfits-requires : tie.Need-misfits-requires
 misfits-requires c κs = search needs
 
--- src/judge.rt:29:9
 returns : tie.Need-returns
 unfolding judged refuseIf
 returns c =
     rw
     (sym (c .before .misfits .ensures) ∙ c .if1 .taken)
 
--- src/judge.rt:31:8
 misfits-requires-2 : tie.Need-misfits-requires-2
 misfits-requires-2 c κs = search needs
 
--- src/judge.rt:32:9
 returns-2 : tie.Need-returns-2
 unfolding judged refuseIf
 returns-2 c =
@@ -34,11 +27,9 @@ returns-2 c =
       sym (c .before .misfits2 .ensures) ∙ c .if2 .taken,
     )
 
--- src/judge.rt:34:8
 misfits-requires-3 : tie.Need-misfits-requires-3
 misfits-requires-3 c κs = search needs
 
--- src/judge.rt:35:9
 returns-3 : tie.Need-returns-3
 unfolding judged refuseIf
 returns-3 c =
@@ -48,11 +39,9 @@ returns-3 c =
       sym (c .before .misfits3 .ensures) ∙ c .if3 .taken,
     )
 
--- src/judge.rt:37:8
 misfits-requires-4 : tie.Need-misfits-requires-4
 misfits-requires-4 c κs = search needs
 
--- src/judge.rt:38:9
 returns-4 : tie.Need-returns-4
 unfolding judged refuseIf
 returns-4 c =
@@ -63,11 +52,9 @@ returns-4 c =
       sym (c .before .misfits4 .ensures) ∙ c .if4 .taken,
     )
 
--- src/judge.rt:40:8
 misfits-requires-5 : tie.Need-misfits-requires-5
 misfits-requires-5 c κs = search needs
 
--- src/judge.rt:41:9
 returns-5 : tie.Need-returns-5
 unfolding judged refuseIf
 returns-5 c =
@@ -79,7 +66,6 @@ returns-5 c =
       sym (c .before .misfits5 .ensures) ∙ c .if5 .taken,
     )
 
--- src/judge.rt:25:1
 returns-6 : tie.Need-returns-6
 unfolding judged refuseIf
 returns-6 c =

@@ -5,40 +5,31 @@ use Rattle.frame.specs.FieldMap.{hasBit, start}
 use Rattle.frame.specs.Layouts.{laid, layoutOf}
 use Rattle.frame.proofs.layout.layout_of.Statement.{statement}
 use Rattle.frame.proofs.layout.layout_of.Tie as tie
-use Rattle.frame.proofs.layout.layout_of.Reads as reads
-use Rattle.frame.proofs.layout.layout_of.Lts as lts
 
--- src/layout.rt:23:1
 returns : tie.Need-returns
 unfolding layoutOf laid hasBit start
 returns c = rw (c .match .keys1)
 
--- src/layout.rt:23:1
 returns-2 : tie.Need-returns-2
 unfolding layoutOf laid hasBit start
 returns-2 c = rw (c .match .keys2)
 
--- src/layout.rt:23:1
 returns-3 : tie.Need-returns-3
 unfolding layoutOf laid hasBit start
 returns-3 c = rw (c .match .keys3)
 
--- src/layout.rt:23:1
 returns-4 : tie.Need-returns-4
 unfolding layoutOf laid hasBit start
 returns-4 c = rw (c .match .keys4)
 
--- src/layout.rt:23:1
 returns-5 : tie.Need-returns-5
 unfolding layoutOf laid hasBit start
 returns-5 c = rw (c .match .keys5)
 
--- src/layout.rt:23:1
 returns-6 : tie.Need-returns-6
 unfolding layoutOf laid hasBit start
 returns-6 c = rw (c .match .keys6)
 
--- src/layout.rt:23:1
 returns-7 : tie.Need-returns-7
 unfolding layoutOf laid hasBit start
 returns-7 c =

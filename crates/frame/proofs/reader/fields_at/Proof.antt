@@ -4,35 +4,25 @@ use Rattle.frame.specs.Layouts.{fieldsAt}
 use borrow.Author.Needs.{needs}
 use Rattle.frame.proofs.reader.fields_at.Statement.{statement}
 use Rattle.frame.proofs.reader.fields_at.Tie as tie
-use Rattle.frame.proofs.reader.fields_at.Reads as reads
-use Rattle.frame.proofs.reader.fields_at.Lts as lts
-use Rattle.frame.proofs.big_endian.number_at.Reads as number-at-reads
 
--- src/reader.rt:48:18
 number-at-requires : tie.Need-number-at-requires
 number-at-requires c κs = search needs
 
--- src/reader.rt:49:17
 number-at-requires-2 : tie.Need-number-at-requires-2
 number-at-requires-2 c κs = search needs
 
--- src/reader.rt:50:16
 number-at-requires-3 : tie.Need-number-at-requires-3
 number-at-requires-3 c κs = search needs
 
--- src/reader.rt:51:17
 number-at-requires-4 : tie.Need-number-at-requires-4
 number-at-requires-4 c κs = search needs
 
--- src/reader.rt:52:16
 number-at-requires-5 : tie.Need-number-at-requires-5
 number-at-requires-5 c κs = search needs
 
--- src/reader.rt:53:18
 number-at-requires-6 : tie.Need-number-at-requires-6
 number-at-requires-6 c κs = search needs
 
--- src/reader.rt:44:1
 returns : tie.Need-returns
 unfolding fieldsAt
 returns c = cc

@@ -11,41 +11,29 @@ use Rattle.frame.proofs.LayoutLaws.{chosen, not-allowed, reading-laid}
 use borrow.Author.Needs.{needs}
 use Rattle.frame.proofs.reader.read.Statement.{statement}
 use Rattle.frame.proofs.reader.read.Tie as tie
-use Rattle.frame.proofs.reader.read.Reads as reads
-use Rattle.frame.proofs.reader.read.Lts as lts
-use Rattle.frame.proofs.layout.layout_of.Reads as layout-of-reads
-use Rattle.frame.proofs.reader.read_by.Reads as read-by-reads
 
--- src/reader.rt:21:9
 returns : tie.Need-returns
 unfolding readFrame readRefusal refuseIf handed
 returns c = rw (eq-eqb _ _ (c .if1 .taken))
 
--- src/reader.rt:23:15
 shared-slice-read-map : tie.Need-shared-slice-read-map
 shared-slice-read-map c = search needs
 
--- src/reader.rt:24:21
 cast-layout-of : tie.Need-cast-layout-of
 cast-layout-of c = omega (arith, c .shared-slice-known2 .given 0)
 
--- src/reader.rt:24:11
 layout-of-requires : tie.Need-layout-of-requires
 layout-of-requires c κs = search needs
 
--- src/reader.rt:25:24
 enum-known-l : tie.Need-enum-known-l
 enum-known-l c = search needs
 
--- src/reader.rt:25:30
 read-by-requires : tie.Need-read-by-requires
 read-by-requires c κs = search needs
 
--- src/reader.rt:26:52
 enum-told : tie.Need-enum-told
 enum-told c = search needs
 
--- src/reader.rt:17:1
 returns-2 : tie.Need-returns-2
 returns-2 c =
     let s = now (c .before .before .before .before .before .before .before .before .args .bytes) in
@@ -55,7 +43,6 @@ returns-2 c =
     ∙ ap (readingBy s) (ch .laid-out)
     ∙ sym (reading-laid s (ch .kind) (ne-eqb _ _ (c .before .before .before .before .before .before .if1 .left)) (ch .byte))
 
--- src/reader.rt:17:1
 returns-3 : tie.Need-returns-3
 unfolding readFrame readRefusal refuseIf handed
 returns-3 c =

@@ -13,37 +13,26 @@ use Rattle.frame.proofs.Outcomes.{handed-refused, reading-of-length}
 use borrow.Author.Needs.{needs}
 use Rattle.frame.proofs.reader.read_by.Statement.{statement}
 use Rattle.frame.proofs.reader.read_by.Tie as tie
-use Rattle.frame.proofs.reader.read_by.Reads as reads
-use Rattle.frame.proofs.reader.read_by.Lts as lts
-use Rattle.frame.proofs.judge.judge.Reads as judge-reads
-use Rattle.frame.proofs.reader.fields_at.Reads as fields-at-reads
 
--- src/reader.rt:33:23
 cast-if1 : tie.Need-cast-if1
 cast-if1 c = search needs
 
--- src/reader.rt:34:9
 returns : tie.Need-returns
 unfolding readingBy refuseIf handed
 returns c = rw (ne-eqb _ _ (c .if1 .taken))
 
--- src/reader.rt:37:9
 fields-at-requires : tie.Need-fields-at-requires
 fields-at-requires c κs = search needs
 
--- src/reader.rt:38:11
 judge-requires : tie.Need-judge-requires
 judge-requires c κs = search needs
 
--- src/reader.rt:39:26
 enum-told : tie.Need-enum-told
 enum-told c = search needs
 
--- src/reader.rt:40:25
 enum-known-r : tie.Need-enum-known-r
 enum-known-r c = search needs
 
--- src/reader.rt:30:1
 returns-2 : tie.Need-returns-2
 unfolding handed
 returns-2 c =
@@ -52,7 +41,6 @@ returns-2 c =
     (reading-of-length (now (a .bytes)) (a .l) (c .before .before .before .fields-at .result) 0 (c .before .before .before .before .if1 .left) (c .before .before .before .fields-at .ensures)
     (ap paperJudged (sym (c .enum-told .given .1)) ∙ c .before .before .judge .ensures))
 
--- src/reader.rt:30:1
 returns-3 : tie.Need-returns-3
 returns-3 c =
     let a = c .before .before .before .before .before .before .before .before .args in

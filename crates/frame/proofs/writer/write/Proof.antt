@@ -11,39 +11,27 @@ use Rattle.frame.proofs.Outcomes.{write-not-allowed, write-out-of-range
 use borrow.Author.Needs.{needs}
 use Rattle.frame.proofs.writer.write.Statement.{statement}
 use Rattle.frame.proofs.writer.write.Tie as tie
-use Rattle.frame.proofs.writer.write.Reads as reads
-use Rattle.frame.proofs.writer.write.Lts as lts
-use Rattle.frame.proofs.judge.judge.Reads as judge-reads
-use Rattle.frame.proofs.layout.layout_of.Reads as layout-of-reads
-use Rattle.frame.proofs.writer.put_frame.Reads as put-frame-reads
 
--- src/writer.rt:21:29
 layout-of-requires : tie.Need-layout-of-requires
 layout-of-requires c κs = search needs
 
--- src/writer.rt:21:24
 enum-known-l : tie.Need-enum-known-l
 enum-known-l c = search needs
 
--- src/writer.rt:22:37
 enum-told : tie.Need-enum-told
 enum-told c = search needs
 
--- src/writer.rt:22:9
 returns : tie.Need-returns
 returns c =
     let a = c .before .before .before .before .args in
     sym (write-not-allowed (a .map) (a .f) (now (a .out)) (not-allowed (a .map) (sym (c .before .before .layout-of .ensures) ∙ c .enum-told .given .1)))
 
--- src/writer.rt:24:33
 judge-requires : tie.Need-judge-requires
 judge-requires c κs = search needs
 
--- src/writer.rt:24:28
 enum-known-r : tie.Need-enum-known-r
 enum-known-r c = search needs
 
--- src/writer.rt:25:9
 returns-2 : tie.Need-returns-2
 returns-2 c =
     let a = c .before .before .before .before .before .before .before .before .before .args in
@@ -55,11 +43,9 @@ returns-2 c =
 enum-told-2 : tie.Need-enum-told-2
 enum-told-2 c = search needs
 
--- src/writer.rt:27:20
 cast-if1 : tie.Need-cast-if1
 cast-if1 c = search needs
 
--- src/writer.rt:28:9
 returns-3 : tie.Need-returns-3
 returns-3 c =
     let a = c .before .before .before .before .before .before .before .before .before .before .args in
@@ -69,15 +55,12 @@ returns-3 c =
     rw (ch .byte)
     (sym (write-short (ch .kind) (a .f) (now (a .out)) (l .length) (length-laid l (ch .kind) (ch .laid-out)) (rw (ch .laid-out) at e) (c .if1 .taken)))
 
--- src/writer.rt:30:5
 put-frame-requires : tie.Need-put-frame-requires
 put-frame-requires c κs = search needs
 
--- src/writer.rt:18:1
 same-length : tie.Need-same-length
 same-length c = search needs
 
--- src/writer.rt:18:1
 returns-4 : tie.Need-returns-4
 returns-4 c =
     let a = c .before .before .before .before .before .before .before .before .before .before .before .before .before .before .args in

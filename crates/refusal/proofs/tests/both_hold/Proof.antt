@@ -3,15 +3,11 @@
 use Rattle.refusal.specs.Judging.{both}
 use Rattle.refusal.proofs.tests.both_hold.Statement.{statement}
 use Rattle.refusal.proofs.tests.both_hold.Tie as tie
-use Rattle.refusal.proofs.tests.both_hold.Reads as reads
-use Rattle.refusal.proofs.tests.both_hold.Lts as lts
 
--- src/tests.rt:6:1
 returns : tie.Need-returns
 unfolding both
 returns c = rw (c .if1 .taken)
 
--- src/tests.rt:6:1
 returns-2 : tie.Need-returns-2
 unfolding both
 returns-2 c = rw (c .if1 .left)

@@ -4,15 +4,11 @@ use borrow.Author.Tests.{lt-ltb, le-ltb}
 use Rattle.refusal.specs.Judging.{outside}
 use Rattle.refusal.proofs.tests.is_outside.Statement.{statement}
 use Rattle.refusal.proofs.tests.is_outside.Tie as tie
-use Rattle.refusal.proofs.tests.is_outside.Reads as reads
-use Rattle.refusal.proofs.tests.is_outside.Lts as lts
 
--- src/tests.rt:17:9
 returns : tie.Need-returns
 unfolding outside
 returns c = rw (lt-ltb _ _ (c .if1 .taken))
 
--- src/tests.rt:13:1
 returns-2 : tie.Need-returns-2
 unfolding outside
 returns-2 c = rw (le-ltb _ _ (c .if1 .left))

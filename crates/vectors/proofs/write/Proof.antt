@@ -1,0 +1,32 @@
+-- `vectors::write` is safe: the part of the buffer that it lends has the room asked for.
+-- Assumes nothing.
+use native.Mathlib.Omega.{arith}
+use lib.ListN.{length-take}
+use borrow.Author.Needs.{needs}
+use Rattle.vectors.proofs.write.Statement.{statement}
+use Rattle.vectors.proofs.write.Tie as tie
+
+array-borrow-prefix-buffer : tie.Need-array-borrow-prefix-buffer
+array-borrow-prefix-buffer c = search needs
+
+slice-aggregate-write-into : tie.Need-slice-aggregate-write-into
+slice-aggregate-write-into c = simp length-take (omega arith)
+
+write-into-requires : tie.Need-write-into-requires
+write-into-requires c κs = search needs
+
+returns : tie.Need-returns
+returns c = search needs
+
+returns-2 : tie.Need-returns-2
+returns-2 c = search needs
+
+pub write-spec : {M : Type 1} → statement M
+write-spec =
+    tie.close
+    (tie.spec
+    array-borrow-prefix-buffer
+    slice-aggregate-write-into
+    write-into-requires
+    returns
+    returns-2)

@@ -10,6 +10,11 @@ use lib.ListN.{length, getD, set, take, drop, length-append, length-drop}
 use lib.Seq.{sets, set-comm, take-suc, getD-drop, getD-at}
 use Rattle.frame.specs.FieldMap.{bigEndian, bytesOf}
 
+-- the first byte counts most: 01 02 is 258
+first-most : (bigEndian (1 ∷ 2 ∷ []) 0 2 ≡ 258) × (bytesOf 2 258 ≡ 1 ∷ 2 ∷ [])
+unfolding bigEndian bytesOf
+first-most = (refl, refl)
+
 -- every element of the list is a byte
 abbrev pub Bytes : List ℕ → Type 0
 Bytes s = (k : ℕ) → getD s k 0 < 256

@@ -61,14 +61,21 @@ extern "C" {
 #define JIZKORMA_ACTION_DISABLE 1u
 #define JIZKORMA_ACTION_TOGGLE  2u
 
-/* What the two functions return. */
+/* What the two functions return: 0, or one of 2, 8, 9, 10, 11, 13 and 14 of the panel's refusal
+   table. The others are found in frames only, in the refusal field. */
 #define JIZKORMA_ACCEPTED         0u
+#define JIZKORMA_REFUSAL_MISFIT   1u  /* the panel's record or slots do not fit; never returned */
 #define JIZKORMA_REFUSAL_ADDRESS  2u  /* point outside 1 to 2147483646 */
+#define JIZKORMA_REFUSAL_READER   3u  /* no such reader; never returned */
+#define JIZKORMA_REFUSAL_ENGAGED  4u  /* work is underway; never returned */
+#define JIZKORMA_REFUSAL_IDLE     5u  /* no work is underway; never returned */
+#define JIZKORMA_REFUSAL_NO_PERCH 6u  /* no position of the point is free; never returned */
+#define JIZKORMA_REFUSAL_UNKNOWN  7u  /* point not found; never returned */
 #define JIZKORMA_REFUSAL_LENGTH   8u  /* frame empty, or not its map's length; reader only */
 #define JIZKORMA_REFUSAL_MAP      9u  /* map is none of the six */
 #define JIZKORMA_REFUSAL_STATION  10u /* station outside 1 to 32 */
 #define JIZKORMA_REFUSAL_TURN     11u /* number outside 1 to 16777215 */
-#define JIZKORMA_REFUSAL_ALTERED  12u /* never returned here; found in frames, as a refusal field */
+#define JIZKORMA_REFUSAL_ALTERED  12u /* last number, other content; never returned */
 #define JIZKORMA_REFUSAL_CODE     13u /* action above 2, or refusal field outside 1 to 14 */
 #define JIZKORMA_REFUSAL_SHORT    14u /* buffer shorter than the frame; writer only */
 

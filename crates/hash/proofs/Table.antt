@@ -1,6 +1,6 @@
--- The lemma that carries the computed test of the table to each of its entries, and so to each hash function.
+-- The lemmas that carry the computed test of the table to each of its entries, and so to each hash function.
 -- Assumes nothing.
-use Prim.Native.Nat.{ℕ, zero, suc, _+_, _<_}
+use Prim.Native.Nat.{ℕ, zero, suc, _+_, _-_, _*_, _≤_, _<_}
 use mathlib.Core.Path.{_≡_, refl, sym, ap, _∙_}
 use mathlib.Core.Bool.{Bool, true, false, _&&_}
 use mathlib.Core.List.{List, [], _∷_}
@@ -45,3 +45,10 @@ unfolding z
 entry xs t k h =
     from xs 0 1 refl (right (eqb (length xs) 128) (follows 1 xs) t) k (omega (arith, table-length xs t))
     ∙ ap z (ap suc (zero-add k) ∙ sym (add-one k))
+
+-- the two entries of function i are z(2i - 1) and z(2i)
+pub of-function : (xs : List ℕ) → isTable xs ≡ true → (i : ℕ) → 1 ≤ i → i ≤ 64 → (getD xs (2 * i - 2) 0 ≡ z (2 * i - 1)) × (getD xs (2 * i - 2 + 1) 0 ≡ z (2 * i))
+of-function xs t i h g =
+    let e : 2 * i - 2 + 1 ≡ 2 * i - 1 = omega arith in
+    let f : 2 * i - 2 + 1 + 1 ≡ 2 * i = omega arith in
+    (entry xs t (2 * i - 2) (omega arith) ∙ ap z e, entry xs t (2 * i - 2 + 1) (omega arith) ∙ ap z f)

@@ -189,12 +189,9 @@ pub fn position(slots: u32, point: u32, index: u32) -> u32
     if 64 < index {
         return 0;
     }
-    mixed(
-        coefficient(2 * index - 1),
-        coefficient(2 * index),
-        point,
-        slots,
-    )
+    let table = coefficients();
+    let at = (2 * index - 2) as usize;
+    mixed(table[at], table[at + 1], point, slots)
 }
 
 // ((a q + b) mod p) mod m

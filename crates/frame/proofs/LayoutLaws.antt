@@ -4,7 +4,7 @@
 use Prim.Native.Nat.{ℕ, zero, suc, _+_, _≤_}
 use mathlib.Core.Path.{_≡_, refl, sym, ap, ap₂, _∙_}
 use mathlib.Core.Bool.{Bool, true, false, cond, not, _||_}
-use mathlib.Core.List.{List, [], _∷_, _++_, append-nil}
+use mathlib.Core.List.{List, [], _∷_, _++_, map, append-nil}
 use native.Mathlib.Nat.{zero-add}
 use native.Mathlib.Omega.{arith}
 use borrow.Author.Tests.{eqb-true, ne-eqb}
@@ -21,6 +21,11 @@ use Rattle.frame.specs.FieldMap.{width, hasBit, start, lengthOf, bigEndi
 use Rattle.frame.specs.Frames.{fieldIn, fieldsIn, judged, readRefusal, handed, readFrame, fieldOf, part, bytesUpTo, encode}
 use Rattle.frame.specs.Layouts.{place, laid, among, layoutOf, present, placesOf, numberAt, fieldsAt, readingBy, put, putFrame}
 use Rattle.frame.proofs.BigEndian.{length-bytes, sets-append}
+
+-- "Their frames have 5, 10, 9, 13, 6 and 10 bytes"
+pub lengths : map (λ (k : Kind). lengthOf (mapOf k)) kinds ≡ 5 ∷ 10 ∷ 9 ∷ 13 ∷ 6 ∷ 10 ∷ []
+unfolding start hasBit
+lengths = refl
 
 -- the kind that a map byte chose
 pub record Chosen (map : ℕ) (l : Layout) : Type 0 where

@@ -98,12 +98,12 @@ accepted s e =
     record { some = a .0; known = not-false (allowed m) (b .0); whole = eqb-true _ _ (not-false _ (c .0)); sound = c .1 }
 
 -- what a frame that is written without refusal has
-record Sound (map : ℕ) (f : Fields) (n : ℕ) : Type 0 where
+record Writable (map : ℕ) (f : Fields) (n : ℕ) : Type 0 where
   known : allowed map ≡ true
   sound : judged (hasBit map) f ≡ 0
   room : lengthOf map ≤ n
 
-written : (map : ℕ) (f : Fields) (out : List ℕ) → Sound map f (length out) → writeFrame map f out ≡ record { refused = 0; written = lengthOf map; buffer = encode map f ++ drop (lengthOf map) out }
+written : (map : ℕ) (f : Fields) (out : List ℕ) → Writable map f (length out) → writeFrame map f out ≡ record { refused = 0; written = lengthOf map; buffer = encode map f ++ drop (lengthOf map) out }
 unfolding writeFrame writeRefusal refuseIf orElse wrote
 written map f out a = rw (a .known, a .sound, le-ltb _ _ (a .room))
 
@@ -117,15 +117,15 @@ unfolding orElse
 neither zero later e = (refl, e)
 neither (suc n) later e = absurd (omega arith)
 
-sound-of : (map : ℕ) (f : Fields) (out : List ℕ) → writeFrame map f out .refused ≡ 0 → Sound map f (length out)
+writable : (map : ℕ) (f : Fields) (out : List ℕ) → writeFrame map f out .refused ≡ 0 → Writable map f (length out)
 unfolding writeFrame writeRefusal
-sound-of map f out e =
+writable map f out e =
     let a = not-refused (not (allowed map)) 9 _ (omega arith) (sym (wrote-number (writeRefusal map f (length out)) map f out) ∙ e) in
     let b = neither (judged (hasBit map) f) _ (a .1) in
     let c = not-refused (ltb (length out) (lengthOf map)) 14 0 (omega arith) (b .1) in
     record { known = not-false (allowed map) (a .0); sound = b .0; room = ltb-false _ _ (c .0) }
 
-encoded : (map : ℕ) (f : Fields) (n : ℕ) → f .value < 2 ^ 32 → Sound map f n → Accepted (encode map f)
+encoded : (map : ℕ) (f : Fields) (n : ℕ) → f .value < 2 ^ 32 → Writable map f n → Accepted (encode map f)
 encoded map f n v a =
     record {
       some = ne-eqb (length (encode map f)) 0 (λ (e : length (encode map f) ≡ 0). omega (arith, start-positive map 6, length-upTo map f 6));
@@ -137,7 +137,7 @@ encoded map f n v a =
 -- reading what was written gives the fields back: those that the map has, and 0 for the others
 pub reading-written : (map : ℕ) (f : Fields) (out : List ℕ) → f .value < 2 ^ 32 → writeFrame map f out .refused ≡ 0 → readFrame (take (writeFrame map f out .written) (writeFrame map f out .buffer)) ≡ record { refused = 0; map = map; fields = kept map f }
 reading-written map f out v e =
-    let a = sound-of map f out e in
+    let a = writable map f out e in
     rw (written map f out a, take-at (encode map f) (drop (lengthOf map) out) (lengthOf map) (length-upTo map f 6), read-accepted (encode map f) (encoded map f (length out) v a), read-map map f, read-fields map f (judged-sound (hasBit map) f (a .sound)) v)
 
 first : (s : List ℕ) → 1 ≤ length s → getD s 0 0 ∷ [] ≡ take 1 s

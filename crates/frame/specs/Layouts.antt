@@ -14,7 +14,7 @@ use Rattle.frame.specs.declared.layout.Layout.{Layout}
 use Rattle.frame.specs.declared.layout.MapByte.{MapByte}
 use Rattle.frame.specs.declared.layout.MapByte.the-variants.{Frame, NotAllowed}
 use Rattle.frame.specs.declared.judge.Judged.{Judged}
-use Rattle.frame.specs.declared.judge.Judged.the-variants.{Sound, Refused}
+use Rattle.frame.specs.declared.judge.Judged.the-variants.{InRange, Refused}
 use Rattle.frame.specs.FieldMap.{hasBit, start, lengthOf, bigEndian, bytesOf, mapOf, kinds}
 use Rattle.frame.specs.declared.Reading.{Reading}
 use Rattle.frame.specs.Frames.{handed, judged}
@@ -71,7 +71,7 @@ fieldsAt s l =
 
 -- the number of what the ranges' judge found
 abbrev pub paperJudged : Judged → ℕ
-paperJudged Sound = 0
+paperJudged InRange = 0
 paperJudged (Refused r) = numberOf r
 
 -- the refusal of a byte string by the layout that its map byte chose

@@ -11,12 +11,12 @@ use refusal::tests::both_hold;
 use refusal::tests::is_outside;
 
 pub(crate) enum Judged {
-    Sound,
+    InRange,
     Refused(Refusal),
 }
 
 // The layout has the field and its number is outside the range.
-fn misfits(at: u32, low: u32, number: u32, high: u32) -> bool
+fn is_out_of_range(at: u32, low: u32, number: u32, high: u32) -> bool
     ensures { λ r. ⌜ r ≡ both (present at) (outside low number high) ⌝ }
 {
     both_hold(at != 0, is_outside(low, number, high))
@@ -25,20 +25,20 @@ fn misfits(at: u32, low: u32, number: u32, high: u32) -> bool
 pub(crate) fn judge(l: Layout, f: Fields) -> Judged
     ensures { λ r. ⌜ paperJudged r ≡ judged (λ (i : ℕ). present (placesOf l i)) f ⌝ }
 {
-    if misfits(l.station, 1, f.station, 32) {
+    if is_out_of_range(l.station, 1, f.station, 32) {
         return Judged::Refused(Refusal::Station);
     }
-    if misfits(l.number, 1, f.number, 16777215) {
+    if is_out_of_range(l.number, 1, f.number, 16777215) {
         return Judged::Refused(Refusal::Turn);
     }
-    if misfits(l.point, 1, f.point, 2147483646) {
+    if is_out_of_range(l.point, 1, f.point, 2147483646) {
         return Judged::Refused(Refusal::Address);
     }
-    if misfits(l.action, 0, f.action, 2) {
+    if is_out_of_range(l.action, 0, f.action, 2) {
         return Judged::Refused(Refusal::Code);
     }
-    if misfits(l.refusal, 1, f.refusal, 14) {
+    if is_out_of_range(l.refusal, 1, f.refusal, 14) {
         return Judged::Refused(Refusal::Code);
     }
-    Judged::Sound
+    Judged::InRange
 }

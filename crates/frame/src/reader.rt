@@ -36,7 +36,7 @@ fn read_by(bytes: &[u8], l: Layout) -> ReadAnswer
     let kind = l.kind;
     let f = fields_at(bytes, l);
     match judge(l, f) {
-        Judged::Sound => ReadAnswer::Frame(kind, f),
+        Judged::InRange => ReadAnswer::Frame(kind, f),
         Judged::Refused(r) => ReadAnswer::Refused(r),
     }
 }

@@ -47,6 +47,10 @@ abbrev pub codes : String → List ℕ
 codes String.[] = []
 codes (String._∷_ c s) = code c ∷ codes s
 
+-- letters, and how many of them count
+abbrev pub word : List ℕ → ℕ → Word
+word letters n = record { letters = letters; length = n }
+
 -- how a word is handed over: its letters, then zeros up to eight, and how many are letters
 abbrev pub spelt : List ℕ → Word
-spelt l = record { letters = l ++ replicate (8 - length l) 0; length = length l }
+spelt l = word (l ++ replicate (8 - length l) 0) (length l)

@@ -1,6 +1,6 @@
 // Document 01's refusal table: one enum, the number and the word of each row.
 ghost use mathlib.Core.Path.{_≡_};
-ghost use Rattle.refusal.specs.Refusals.{numberOf, wordOf, codes, spelt};
+ghost use Rattle.refusal.specs.Refusals.{numberOf, wordOf, codes, word, spelt};
 
 pub mod tests;
 
@@ -63,62 +63,20 @@ impl Refusal {
         ensures { λ r. ⌜ r ≡ spelt (codes (wordOf self)) ⌝ }
     {
         match self {
-            Refusal::Misfit => Word {
-                letters: [b'm', b'i', b's', b'f', b'i', b't', 0, 0],
-                length: 6,
-            },
-            Refusal::Address => Word {
-                letters: [b'a', b'd', b'd', b'r', b'e', b's', b's', 0],
-                length: 7,
-            },
-            Refusal::Reader => Word {
-                letters: [b'r', b'e', b'a', b'd', b'e', b'r', 0, 0],
-                length: 6,
-            },
-            Refusal::Engaged => Word {
-                letters: [b'e', b'n', b'g', b'a', b'g', b'e', b'd', 0],
-                length: 7,
-            },
-            Refusal::Idle => Word {
-                letters: [b'i', b'd', b'l', b'e', 0, 0, 0, 0],
-                length: 4,
-            },
-            Refusal::NoPerch => Word {
-                letters: [b'n', b'o', b' ', b'p', b'e', b'r', b'c', b'h'],
-                length: 8,
-            },
-            Refusal::Unknown => Word {
-                letters: [b'u', b'n', b'k', b'n', b'o', b'w', b'n', 0],
-                length: 7,
-            },
-            Refusal::Length => Word {
-                letters: [b'l', b'e', b'n', b'g', b't', b'h', 0, 0],
-                length: 6,
-            },
-            Refusal::Map => Word {
-                letters: [b'm', b'a', b'p', 0, 0, 0, 0, 0],
-                length: 3,
-            },
-            Refusal::Station => Word {
-                letters: [b's', b't', b'a', b't', b'i', b'o', b'n', 0],
-                length: 7,
-            },
-            Refusal::Turn => Word {
-                letters: [b't', b'u', b'r', b'n', 0, 0, 0, 0],
-                length: 4,
-            },
-            Refusal::Altered => Word {
-                letters: [b'a', b'l', b't', b'e', b'r', b'e', b'd', 0],
-                length: 7,
-            },
-            Refusal::Code => Word {
-                letters: [b'c', b'o', b'd', b'e', 0, 0, 0, 0],
-                length: 4,
-            },
-            Refusal::Short => Word {
-                letters: [b's', b'h', b'o', b'r', b't', 0, 0, 0],
-                length: 5,
-            },
+            Refusal::Misfit => spelled(b"misfit\0\0", 6),
+            Refusal::Address => spelled(b"address\0", 7),
+            Refusal::Reader => spelled(b"reader\0\0", 6),
+            Refusal::Engaged => spelled(b"engaged\0", 7),
+            Refusal::Idle => spelled(b"idle\0\0\0\0", 4),
+            Refusal::NoPerch => spelled(b"no perch", 8),
+            Refusal::Unknown => spelled(b"unknown\0", 7),
+            Refusal::Length => spelled(b"length\0\0", 6),
+            Refusal::Map => spelled(b"map\0\0\0\0\0", 3),
+            Refusal::Station => spelled(b"station\0", 7),
+            Refusal::Turn => spelled(b"turn\0\0\0\0", 4),
+            Refusal::Altered => spelled(b"altered\0", 7),
+            Refusal::Code => spelled(b"code\0\0\0\0", 4),
+            Refusal::Short => spelled(b"short\0\0\0", 5),
         }
     }
 }
@@ -127,4 +85,13 @@ impl Refusal {
 pub struct Word {
     pub letters: [u8; 8],
     pub length: usize,
+}
+
+fn spelled(letters: &[u8; 8], length: usize) -> Word
+    ensures { λ r. ⌜ r ≡ word (now (letters .entry)) length ⌝ }
+{
+    Word {
+        letters: *letters,
+        length: length,
+    }
 }

@@ -2,28 +2,21 @@
 -- Assumes nothing.
 use Prim.Native.Nat.{ℕ, _≤_}
 use mathlib.Core.Path.{_≡_, refl}
-use mathlib.Core.Bool.{Bool, true, false, cond, _||_}
+use mathlib.Mathlib.Data.Bool.Basic.{or-eq-false-eq-eq-false-and-eq-false}
+use mathlib.Core.Bool.{false≢true, Bool, true, false, cond}
 use native.Mathlib.Omega.{arith}
 use borrow.Author.Tests.{ltb-false}
 use lib.Dec.{ltb}
 use Rattle.refusal.specs.Judging.{both, outside, refuseIf}
+use Rattle.refusal.proofs.Laws.{not-refused}
 use Rattle.frame.specs.declared.Fields.{Fields}
 use Rattle.frame.specs.FieldMap.{hasBit}
 use Rattle.frame.specs.Frames.{kept, judged}
 
-pub not-refused : (t : Bool) (n later : ℕ) → 1 ≤ n → refuseIf t n later ≡ 0 → (t ≡ false) × (later ≡ 0)
-unfolding refuseIf
-not-refused true n later h e = absurd (omega arith)
-not-refused false n later h e = (refl, e)
-
 in-range : (has : Bool) (low x high : ℕ) → both has (outside low x high) ≡ false → has ≡ true → x ≤ high
 unfolding both outside
-in-range true low x high e t = ltb-false high x (right (ltb x low) (ltb high x) e)
-  where
-    right : (a b : Bool) → (a || b) ≡ false → b ≡ false
-    right true b e = let n : _≡_ {A = ℕ} 0 1 = cc in absurd (omega arith)
-    right false b e = e
-in-range false low x high e t = let n : _≡_ {A = ℕ} 0 1 = cc in absurd (omega arith)
+in-range true low x high e t = ltb-false high x (or-eq-false-eq-eq-false-and-eq-false (ltb x low) (ltb high x) .0 e .1)
+in-range false low x high e t = absurd (false≢true t)
 
 -- the upper ends of the ranges of the fields that a frame has
 pub record InRange (has : ℕ → Bool) (f : Fields) : Type 0 where

@@ -9,6 +9,7 @@ use borrow.Author.Tests.{eq-eqb, lt-ltb, le-ltb}
 use lib.Dec.{ltb}
 use lib.ListN.{length}
 use Rattle.refusal.specs.Judging.{refuseIf, orElse}
+use Rattle.refusal.proofs.Laws.{else-refused}
 use Rattle.frame.specs.declared.Kind.{Kind}
 use Rattle.frame.specs.declared.Fields.{Fields}
 use Rattle.frame.specs.declared.layout.Layout.{Layout}
@@ -26,11 +27,6 @@ pub wrote-refused : (n map : ℕ) (f : Fields) (out : List ℕ) → 1 ≤ n → 
 unfolding wrote
 wrote-refused zero map f out h = absurd (omega arith)
 wrote-refused (suc n) map f out h = refl
-
-else-refused : (n later : ℕ) → 1 ≤ n → orElse n later ≡ n
-unfolding orElse
-else-refused zero later h = absurd (omega arith)
-else-refused (suc n) later h = refl
 
 -- the ranges' judge, by a layout
 abbrev pub judgedBy : Layout → Fields → ℕ

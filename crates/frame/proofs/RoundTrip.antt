@@ -13,12 +13,13 @@ use lib.Dec.{eqb, ltb}
 use lib.ListN.{length, getD, take, drop}
 use lib.Seq.{take-add, take-length, take-at}
 use Rattle.refusal.specs.Judging.{refuseIf, orElse}
+use Rattle.refusal.proofs.Laws.{not-refused, neither-refused}
 use Rattle.frame.specs.declared.Fields.{Fields}
 use Rattle.frame.specs.declared.Reading.{Reading}
 use Rattle.frame.specs.FieldMap.{width, hasBit, size, start, lengthOf, bigEndian, bytesOf, allowed}
 use Rattle.frame.specs.Frames.{fieldIn, fieldOf, fieldsIn, kept, judged, readRefusal, handed, readFrame, part, bytesUpTo, encode, writeRefusal, wrote, writeFrame}
 use Rattle.frame.proofs.BigEndian.{Bytes, read-back, write-back}
-use Rattle.frame.proofs.Judged.{InRange, not-refused, judged-sound, judged-kept}
+use Rattle.frame.proofs.Judged.{InRange, judged-sound, judged-kept}
 use Rattle.frame.proofs.LayoutLaws.{start-positive, length-upTo}
 
 -- a field that the map has fits its width
@@ -112,16 +113,11 @@ unfolding wrote
 wrote-number zero map f out = refl
 wrote-number (suc n) map f out = refl
 
-neither : (n later : ℕ) → orElse n later ≡ 0 → (n ≡ 0) × (later ≡ 0)
-unfolding orElse
-neither zero later e = (refl, e)
-neither (suc n) later e = absurd (omega arith)
-
 writable : (map : ℕ) (f : Fields) (out : List ℕ) → writeFrame map f out .refused ≡ 0 → Writable map f (length out)
 unfolding writeFrame writeRefusal
 writable map f out e =
     let a = not-refused (not (allowed map)) 9 _ (omega arith) (sym (wrote-number (writeRefusal map f (length out)) map f out) ∙ e) in
-    let b = neither (judged (hasBit map) f) _ (a .1) in
+    let b = neither-refused (judged (hasBit map) f) _ (a .1) in
     let c = not-refused (ltb (length out) (lengthOf map)) 14 0 (omega arith) (b .1) in
     record { known = not-false (allowed map) (a .0); sound = b .0; room = ltb-false _ _ (c .0) }
 

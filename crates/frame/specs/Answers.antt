@@ -21,14 +21,16 @@ abbrev pub paperWrite : WriteAnswer → List ℕ → Writing
 paperWrite (Written n) out = record { refused = 0; written = n; buffer = out }
 paperWrite (WriteAnswer·Refused r) out = record { refused = numberOf r; written = 0; buffer = out }
 
--- the numbers of the C interface, put together
+-- the numbers of the C interface, put together: the six fields
 abbrev pub fieldsOf : ℕ → ℕ → ℕ → ℕ → ℕ → ℕ → Fields
 fieldsOf station number point action value refusal =
     record { station = station; number = number; point = point; action = action; value = value; refusal = refusal }
 
+-- what the reader hands back
 abbrev pub reading : ℕ → ℕ → ℕ → ℕ → ℕ → ℕ → ℕ → ℕ → Reading
 reading refused map station number point action value refusal =
     record { refused = refused; map = map; fields = fieldsOf station number point action value refusal }
 
+-- what the writer hands back, with the buffer
 abbrev pub writing : ℕ → ℕ → List ℕ → Writing
 writing refused written buffer = record { refused = refused; written = written; buffer = buffer }

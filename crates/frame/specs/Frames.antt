@@ -41,7 +41,8 @@ kept map f =
       refusal = cond (hasBit map 5) (f .refusal) 0;
     }
 
--- the ranges "1 to 32", "1 to 16777215", of a point, of an action, "1 to 14", judged "in bit order" of those that the frame has
+-- the fields that the frame has, judged "in bit order": station "1 to 32", number "1 to 16777215", point "1 to 2147483646",
+-- action not "above 2", value "any", refusal "1 to 14"
 unfoldable pub judged : (ℕ → Bool) → Fields → ℕ
 judged has f =
     refuseIf (both (has 0) (outside 1 (f .station) 32)) 10
@@ -58,6 +59,7 @@ readRefusal s =
     (refuseIf (not (eqb (length s) (lengthOf (getD s 0 0)))) 8
     (judged (hasBit (getD s 0 0)) (fieldsIn s (getD s 0 0)))))
 
+-- the fields that go with a refusal
 abbrev pub noFields : Fields
 noFields = record { station = 0; number = 0; point = 0; action = 0; value = 0; refusal = 0 }
 

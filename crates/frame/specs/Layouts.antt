@@ -1,5 +1,5 @@
--- The layout that a map byte chooses, as the code holds it, and what the reader and the writer do by a layout. Beside the field map
--- these say nothing new: Frame/Laws shows that a layout of an allowed map gives the field map's own fields and bytes.
+-- The layout that a map byte chooses, as the code holds it, and what the private functions do by a layout. No public contract cites
+-- these: proofs/LayoutLaws.antt shows that a layout gives the field map's own fields, ranges and bytes.
 use Prim.Native.Nat.{ℕ}
 use mathlib.Core.Bool.{Bool, cond, not}
 use mathlib.Core.List.{List, [], _∷_}
@@ -50,6 +50,7 @@ layoutOf map = among map kinds
 abbrev pub present : ℕ → Bool
 present at = not (eqb at 0)
 
+-- the places by their bits
 abbrev pub placesOf : Layout → ℕ → ℕ
 placesOf l i = getD (l .station ∷ l .number ∷ l .point ∷ l .action ∷ l .value ∷ l .refusal ∷ []) i 0
 
@@ -74,7 +75,7 @@ abbrev pub paperJudged : Judged → ℕ
 paperJudged InRange = 0
 paperJudged (Refused r) = numberOf r
 
--- the refusal of a byte string by the layout that its map byte chose
+-- what reading comes to by the layout that the map byte chose
 unfoldable pub readingBy : List ℕ → Layout → Reading
 readingBy s l =
     handed

@@ -2,8 +2,8 @@
 -- that a position is a slot's number.
 -- Assumes nothing.
 use Prim.Native.Nat.{ℕ, _+_, _-_, _*_, _%_, _≤_, _<_}
-use mathlib.Core.Path.{_≡_, refl}
-use mathlib.Core.Bool.{Bool, true, false, cond, _&&_}
+use mathlib.Core.Path.{_≡_}
+use mathlib.Core.Bool.{and-false, Bool, true, false, cond, _&&_}
 use native.Mathlib.Nat.{mod-lt}
 use native.Mathlib.Omega.{arith}
 use borrow.Author.Tests.{le-leb, lt-leb}
@@ -24,18 +24,10 @@ module _ (m q i : ℕ) where
   position-no-slot e = no-function (rw (lt-leb 1 m (omega arith)))
 
   pub position-no-index : i ≡ 0 → positionOf m q i ≡ 0
-  position-no-index e = no-function (below (leb 1 m))
-    where
-      below : (b : Bool) → (b && leb 1 i && leb i 64) ≡ false
-      below true = rw (lt-leb 1 i (omega arith))
-      below false = refl
+  position-no-index e = no-function (rw (lt-leb 1 i (omega arith), and-false (leb 1 m)))
 
   pub position-past : 64 < i → positionOf m q i ≡ 0
-  position-past h = no-function (above (leb 1 m && leb 1 i))
-    where
-      above : (b : Bool) → (b && leb i 64) ≡ false
-      above true = lt-leb i 64 h
-      above false = refl
+  position-past h = no-function (rw (lt-leb i 64 h, and-false (leb 1 m && leb 1 i)))
 
 pub coefficient-inside : (j : ℕ) → 1 ≤ j → j ≤ 128 → coefficientOf j ≡ z j
 unfolding coefficientOf
@@ -47,11 +39,7 @@ coefficient-none j e = rw (lt-leb 1 j (omega arith))
 
 pub coefficient-past : (j : ℕ) → 128 < j → coefficientOf j ≡ 0
 unfolding coefficientOf
-coefficient-past j h = above (leb 1 j)
-  where
-    above : (b : Bool) → cond (b && leb j 128) (z j) 0 ≡ 0
-    above true = rw (lt-leb j 128 h)
-    above false = refl
+coefficient-past j h = rw (lt-leb j 128 h, and-false (leb 1 j))
 
 -- a position is the number of a slot
 pub position-below : (m q i : ℕ) → 1 ≤ m → positionOf m q i < m

@@ -2,7 +2,7 @@
 -- Assumes nothing.
 use Prim.Native.Nat.{ℕ, zero, suc, _+_, _-_, _*_, _≤_, _<_}
 use mathlib.Core.Path.{_≡_, refl, sym, ap, _∙_}
-use mathlib.Core.Bool.{Bool, true, false, _&&_}
+use mathlib.Core.Bool.{and-eq-true-iff, true}
 use mathlib.Core.List.{List, [], _∷_}
 use native.Mathlib.Nat.{add-zero, zero-add, add-suc, suc-add, le-of-suc-le-suc, not-suc-le-zero}
 use native.Mathlib.Numerals.{add-one}
@@ -13,20 +13,12 @@ use lib.ListN.{length, getD}
 use Rattle.hash.specs.Position.{nextOf, z}
 use Rattle.hash.specs.Table.{follows, isTable}
 
-left : (a b : Bool) → (a && b) ≡ true → a ≡ true
-left true b t = refl
-left false b t = t
-
-right : (a b : Bool) → (a && b) ≡ true → b ≡ true
-right true b t = t
-right false b t = let n : _≡_ {A = ℕ} 0 1 = cc in absurd (omega arith)
-
 module _ (x before : ℕ) (xs : List ℕ) (t : follows before (x ∷ xs) ≡ true) where
   head : x ≡ nextOf before
-  head = eqb-true x (nextOf before) (left (eqb x (nextOf before)) (follows x xs) t)
+  head = eqb-true x (nextOf before) (and-eq-true-iff (eqb x (nextOf before)) (follows x xs) .0 t .0)
 
   tail : follows x xs ≡ true
-  tail = right (eqb x (nextOf before)) (follows x xs) t
+  tail = and-eq-true-iff (eqb x (nextOf before)) (follows x xs) .0 t .1
 
 from : (xs : List ℕ) (j before : ℕ) → before ≡ z j → follows before xs ≡ true → (k : ℕ) → k < length xs → getD xs k 0 ≡ z (suc (j + k))
 unfolding z
@@ -37,13 +29,13 @@ from (x ∷ xs) j before e t (suc k) h =
     ∙ ap z (ap suc (suc-add j k ∙ sym (add-suc j k)))
 
 pub table-length : (xs : List ℕ) → isTable xs ≡ true → length xs ≡ 128
-table-length xs t = eqb-true (length xs) 128 (left (eqb (length xs) 128) (follows 1 xs) t)
+table-length xs t = eqb-true (length xs) 128 (and-eq-true-iff (eqb (length xs) 128) (follows 1 xs) .0 t .0)
 
 -- the entry at k is z(k + 1)
 pub entry : (xs : List ℕ) → isTable xs ≡ true → (k : ℕ) → k < 128 → getD xs k 0 ≡ z (k + 1)
 unfolding z
 entry xs t k h =
-    from xs 0 1 refl (right (eqb (length xs) 128) (follows 1 xs) t) k (omega (arith, table-length xs t))
+    from xs 0 1 refl (and-eq-true-iff (eqb (length xs) 128) (follows 1 xs) .0 t .1) k (omega (arith, table-length xs t))
     ∙ ap z (ap suc (zero-add k) ∙ sym (add-one k))
 
 -- the two entries of function i are z(2i - 1) and z(2i)

@@ -1,13 +1,16 @@
--- Laws of the refusals: no number is 0, so that 0 can mean "not refused"; a number tells its row; a word's letters are in its array.
+-- Laws of the refusals: no number is 0, so that 0 can mean "not refused"; a number tells its row; a word's letters are in its array;
+-- and what follows where a chain of tests refuses or does not.
 -- Assumes nothing.
-use Prim.Native.Nat.{ℕ, _-_, _≤_}
+use Prim.Native.Nat.{ℕ, zero, suc, _-_, _≤_}
 use mathlib.Core.Path.{_≡_, refl, sym, ap, _∙_}
+use mathlib.Core.Bool.{Bool, true, false}
 use mathlib.Core.List.{List, [], _∷_}
 use native.Mathlib.Omega.{arith}
 use lib.ListN.{length, getD, replicate, length-append}
 use Rattle.refusal.specs.declared.Refusal.{Refusal}
 use Rattle.refusal.specs.declared.Refusal.the-variants.{Misfit, Address, Reader, Engaged, Idle, NoPerch, Unknown, Length, Map, Station, Turn, Altered, Code, Short}
 use Rattle.refusal.specs.declared.Word.{Word}
+use Rattle.refusal.specs.Judging.{refuseIf, orElse}
 use Rattle.refusal.specs.Refusals.{numberOf, wordOf, codes, spelt}
 
 -- the row of a number
@@ -55,3 +58,19 @@ spelt-fits l = omega (arith, length-append l (replicate (8 - length l) 0))
 
 pub word-fits : (w : Word) (r : Refusal) → w ≡ spelt (codes (wordOf r)) → w .length ≤ length (w .letters)
 word-fits w r e = rw e (spelt-fits (codes (wordOf r)))
+
+-- where a chain refuses nothing, its first test failed, and so does the rest of it
+pub not-refused : (t : Bool) (n later : ℕ) → 1 ≤ n → refuseIf t n later ≡ 0 → (t ≡ false) × (later ≡ 0)
+unfolding refuseIf
+not-refused true n later h e = absurd (omega arith)
+not-refused false n later h e = (refl, e)
+
+pub else-refused : (n later : ℕ) → 1 ≤ n → orElse n later ≡ n
+unfolding orElse
+else-refused zero later h = absurd (omega arith)
+else-refused (suc n) later h = refl
+
+pub neither-refused : (n later : ℕ) → orElse n later ≡ 0 → (n ≡ 0) × (later ≡ 0)
+unfolding orElse
+neither-refused zero later e = (refl, e)
+neither-refused (suc n) later e = absurd (omega arith)

@@ -1,9 +1,10 @@
 -- The paper's numbers tell the cases of the answers apart, so that the contracts decide the enums too.
 -- Assumes nothing.
 use Prim.Native.Nat.{ℕ}
-use mathlib.Core.Path.{_≡_, refl, sym, ap, ap₂, _∙_}
+use mathlib.Core.Path.{_≡_, refl, ap, ap₂}
 use mathlib.Core.Bool.{cond}
 use mathlib.Core.List.{List, [], _∷_}
+use mathlib.Mathlib.Logic.Function.Defs.{LeftInverse·injective}
 use native.Mathlib.Omega.{arith}
 use lib.Dec.{eqb}
 use Rattle.refusal.proofs.Laws.{number-tells, number-positive}
@@ -33,7 +34,7 @@ kind-of-map QueryRefused = refl
 kind-of-map CommandRefused = refl
 
 pub map-tells : (k l : Kind) → mapOf k ≡ mapOf l → k ≡ l
-map-tells k l e = sym (kind-of-map k) ∙ ap (λ (m : ℕ). kindOf m kinds) e ∙ kind-of-map l
+map-tells = LeftInverse·injective (λ (m : ℕ). kindOf m kinds) mapOf kind-of-map
 
 pub read-tells : (a b : ReadAnswer) → paperRead a ≡ paperRead b → a ≡ b
 read-tells (ReadAnswer·Frame k f) (ReadAnswer·Frame l g) e =

@@ -51,6 +51,7 @@ mapOf CommandRefused = 0x27
 abbrev pub kinds : List Kind
 kinds = Query ∷ Command ∷ Value ∷ CommandAnswer ∷ QueryRefused ∷ CommandRefused ∷ []
 
+-- the map byte of one of some kinds
 abbrev pub isMapOf : ℕ → List Kind → Bool
 isMapOf map [] = false
 isMapOf map (kind ∷ others) = eqb map (mapOf kind) || isMapOf map others

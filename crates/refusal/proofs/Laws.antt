@@ -2,9 +2,10 @@
 -- and what follows where a chain of tests refuses or does not.
 -- Assumes nothing.
 use Prim.Native.Nat.{ℕ, zero, suc, _-_, _≤_}
-use mathlib.Core.Path.{_≡_, refl, sym, ap, _∙_}
+use mathlib.Core.Path.{_≡_, refl}
 use mathlib.Core.Bool.{Bool, true, false}
 use mathlib.Core.List.{List, [], _∷_}
+use mathlib.Mathlib.Logic.Function.Defs.{LeftInverse·injective}
 use native.Mathlib.Omega.{arith}
 use lib.ListN.{length, getD, replicate, length-append}
 use Rattle.refusal.specs.declared.Refusal.{Refusal}
@@ -35,7 +36,7 @@ row-of-number Code = refl
 row-of-number Short = refl
 
 pub number-tells : (r s : Refusal) → numberOf r ≡ numberOf s → r ≡ s
-number-tells r s e = sym (row-of-number r) ∙ ap rowOf e ∙ row-of-number s
+number-tells = LeftInverse·injective rowOf numberOf row-of-number
 
 pub number-positive : (r : Refusal) → 1 ≤ numberOf r
 number-positive Misfit = omega arith

@@ -7,14 +7,11 @@ use lib.Dec.{eqb}
 use lib.ListN.{length, getD, set}
 use lib.Seq.{sets}
 use Rattle.refusal.specs.Judging.{refuseIf}
-use Rattle.refusal.specs.Refusals.{numberOf}
 use Rattle.frame.specs.declared.Kind.{Kind}
 use Rattle.frame.specs.declared.Fields.{Fields}
 use Rattle.frame.specs.declared.layout.Layout.{Layout}
 use Rattle.frame.specs.declared.layout.MapByte.{MapByte}
 use Rattle.frame.specs.declared.layout.MapByte.the-variants.{Frame, NotAllowed}
-use Rattle.frame.specs.declared.judge.Judged.{Judged}
-use Rattle.frame.specs.declared.judge.Judged.the-variants.{InRange, Refused}
 use Rattle.frame.specs.FieldMap.{hasBit, start, lengthOf, bigEndian, bytesOf, mapOf, kinds}
 use Rattle.frame.specs.declared.Reading.{Reading}
 use Rattle.frame.specs.Frames.{handed, judged}
@@ -69,11 +66,6 @@ fieldsAt s l =
       value = numberAt s (l .value) 4;
       refusal = numberAt s (l .refusal) 1;
     }
-
--- the number of what the ranges' judge found
-abbrev pub paperJudged : Judged → ℕ
-paperJudged InRange = 0
-paperJudged (Refused r) = numberOf r
 
 -- what reading comes to by the layout that the map byte chose
 unfoldable pub readingBy : List ℕ → Layout → Reading

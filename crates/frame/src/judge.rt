@@ -2,18 +2,15 @@
 ghost use mathlib.Core.Path.{_≡_};
 ghost use Prim.Native.Nat.{ℕ};
 ghost use Rattle.refusal.specs.Judging.{both, outside};
+ghost use Rattle.refusal.specs.Refusals.{paperJudged};
 ghost use Rattle.frame.specs.Frames.{judged};
-ghost use Rattle.frame.specs.Layouts.{present, placesOf, paperJudged};
+ghost use Rattle.frame.specs.Layouts.{present, placesOf};
 use crate::Fields;
 use crate::layout::Layout;
+use refusal::Judged;
 use refusal::Refusal;
 use refusal::tests::both_hold;
 use refusal::tests::is_outside;
-
-pub(crate) enum Judged {
-    InRange,
-    Refused(Refusal),
-}
 
 // The layout has the field and its number is outside the range.
 fn is_out_of_range(at: u32, low: u32, number: u32, high: u32) -> bool
@@ -40,5 +37,5 @@ pub(crate) fn judge(l: Layout, f: Fields) -> Judged
     if is_out_of_range(l.refusal, 1, f.refusal, 14) {
         return Judged::Refused(Refusal::Code);
     }
-    Judged::InRange
+    Judged::Allowed
 }

@@ -6,11 +6,11 @@ ghost use Rattle.frame.specs.Layouts.{fieldsAt, readingBy};
 use crate::Fields;
 use crate::ReadAnswer;
 use crate::big_endian::number_at;
-use crate::judge::Judged;
 use crate::judge::judge;
 use crate::layout::Layout;
 use crate::layout::MapByte;
 use crate::layout::layout_of;
+use refusal::Judged;
 use refusal::Refusal;
 
 // The frame that a byte string is, or why it is none: 8 if empty, 9, 8, then its fields in bit order.
@@ -36,7 +36,7 @@ fn read_by(bytes: &[u8], l: Layout) -> ReadAnswer
     let kind = l.kind;
     let f = fields_at(bytes, l);
     match judge(l, f) {
-        Judged::InRange => ReadAnswer::Frame(kind, f),
+        Judged::Allowed => ReadAnswer::Frame(kind, f),
         Judged::Refused(r) => ReadAnswer::Refused(r),
     }
 }

@@ -7,11 +7,11 @@ use crate::Fields;
 use crate::WriteAnswer;
 use crate::big_endian::put_byte;
 use crate::big_endian::put_number;
-use crate::judge::Judged;
 use crate::judge::judge;
 use crate::layout::Layout;
 use crate::layout::MapByte;
 use crate::layout::layout_of;
+use refusal::Judged;
 use refusal::Refusal;
 
 // Writes a frame to the start of a buffer, or says why not: 9, the fields in bit order, 14.

@@ -2,11 +2,19 @@
 -- Each name here stays shut where a proof does not open it, so that a caller's proof takes a test as one term.
 use Prim.Native.Nat.{ℕ, zero, suc}
 use mathlib.Core.Bool.{Bool, true, false, _&&_, _||_}
-use lib.Dec.{ltb}
+use lib.Dec.{leb, ltb}
 
 -- both tests hold
 unfoldable pub both : Bool → Bool → Bool
 both a b = a && b
+
+-- one of the tests holds, or both do
+unfoldable pub either : Bool → Bool → Bool
+either a b = a || b
+
+-- x is "low to high"
+unfoldable pub within : ℕ → ℕ → ℕ → Bool
+within low x high = both (leb low x) (leb x high)
 
 -- x is outside low to high
 unfoldable pub outside : ℕ → ℕ → ℕ → Bool

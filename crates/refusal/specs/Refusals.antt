@@ -6,6 +6,8 @@ use mathlib.Core.List.{List, [], _∷_, _++_}
 use lib.ListN.{length, replicate}
 use Rattle.refusal.specs.declared.Refusal.{Refusal}
 use Rattle.refusal.specs.declared.Refusal.the-variants.{Misfit, Address, Reader, Engaged, Idle, NoPerch, Unknown, Length, Map, Station, Turn, Altered, Code, Short}
+use Rattle.refusal.specs.declared.Judged.{Judged}
+use Rattle.refusal.specs.declared.Judged.the-variants.{Allowed, Refused}
 use Rattle.refusal.specs.declared.Word.{Word}
 
 -- column "no."
@@ -24,6 +26,11 @@ numberOf Turn = 11
 numberOf Altered = 12
 numberOf Code = 13
 numberOf Short = 14
+
+-- what a call's tests came to, as a chain of tests gives it: the refusal's number, or 0 for none
+abbrev pub paperJudged : Judged → ℕ
+paperJudged Allowed = 0
+paperJudged (Refused r) = numberOf r
 
 -- column "word"
 abbrev pub wordOf : Refusal → String

@@ -81,6 +81,12 @@ impl Refusal {
     }
 }
 
+// What the tests of a call came to.
+pub enum Judged {
+    Allowed,
+    Refused(Refusal),
+}
+
 // A word of the table in ASCII: the first `length` of the letters, and zeros behind them.
 pub struct Word {
     pub letters: [u8; 8],

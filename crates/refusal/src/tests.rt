@@ -1,12 +1,26 @@
 // Tests joined by calls: `&&` and `||` would split the proof of each caller.
 ghost use mathlib.Core.Path.{_≡_};
-ghost use Rattle.refusal.specs.Judging.{both, outside};
+ghost use Rattle.refusal.specs.Judging.{both, either, within, outside};
 
 // Both tests hold.
 pub fn both_hold(a: bool, b: bool) -> bool
     ensures { λ r. ⌜ r ≡ both a b ⌝ }
 {
     if a { b } else { false }
+}
+
+// One of the tests holds, or both do.
+pub fn either_holds(a: bool, b: bool) -> bool
+    ensures { λ r. ⌜ r ≡ either a b ⌝ }
+{
+    if a { true } else { b }
+}
+
+// x lies from `low` to `high`.
+pub fn is_within(low: u32, x: u32, high: u32) -> bool
+    ensures { λ r. ⌜ r ≡ within low x high ⌝ }
+{
+    both_hold(low <= x, x <= high)
 }
 
 // x lies below `low` or above `high`.

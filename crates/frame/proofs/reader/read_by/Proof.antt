@@ -8,7 +8,8 @@ use Rattle.refusal.specs.Refusals.{numberOf}
 use Rattle.refusal.proofs.Laws.{number-positive}
 use Rattle.frame.specs.FieldMap.{mapOf}
 use Rattle.frame.specs.Frames.{handed}
-use Rattle.frame.specs.Layouts.{paperJudged, readingBy}
+use Rattle.refusal.specs.Refusals.{paperJudged}
+use Rattle.frame.specs.Layouts.{readingBy}
 use Rattle.frame.proofs.Outcomes.{handed-refused, reading-of-length}
 use borrow.Author.Needs.{needs}
 use Rattle.frame.proofs.reader.read_by.Statement.{statement}

@@ -5,7 +5,8 @@ use denote.Ref.{now}
 use Rattle.refusal.specs.Refusals.{numberOf}
 use Rattle.refusal.proofs.Laws.{number-positive}
 use Rattle.frame.specs.declared.layout.Layout.{Layout}
-use Rattle.frame.specs.Layouts.{paperJudged, putFrame}
+use Rattle.refusal.specs.Refusals.{paperJudged}
+use Rattle.frame.specs.Layouts.{putFrame}
 use Rattle.frame.proofs.LayoutLaws.{chosen, not-allowed, length-laid}
 use Rattle.frame.proofs.Outcomes.{write-not-allowed, write-out-of-range, write-short, write-whole}
 use borrow.Author.Needs.{needs}

@@ -1,0 +1,16 @@
+-- `refusal::tests::either_holds` meets its contract, by the two values of its first test.
+-- Assumes nothing.
+use Rattle.refusal.specs.Judging.{either}
+use Rattle.refusal.proofs.tests.either_holds.Statement.{statement}
+use Rattle.refusal.proofs.tests.either_holds.Tie as tie
+
+returns : tie.Need-returns
+unfolding either
+returns c = rw (c .if1 .taken)
+
+returns-2 : tie.Need-returns-2
+unfolding either
+returns-2 c = rw (c .if1 .left)
+
+pub either-holds-spec : {M : Type 1} → statement M
+either-holds-spec = tie.close (tie.spec returns returns-2)

@@ -1,0 +1,16 @@
+-- `refusal::tests::is_within` meets its contract: it joins the two comparisons.
+-- Assumes nothing.
+use borrow.Author.Needs.{needs}
+use Rattle.refusal.specs.Judging.{within}
+use Rattle.refusal.proofs.tests.is_within.Statement.{statement}
+use Rattle.refusal.proofs.tests.is_within.Tie as tie
+
+both-hold-requires : tie.Need-both-hold-requires
+both-hold-requires c κs = search needs
+
+returns : tie.Need-returns
+unfolding within
+returns c = c .both-hold .ensures
+
+pub is-within-spec : {M : Type 1} → statement M
+is-within-spec = tie.close (tie.spec both-hold-requires returns)

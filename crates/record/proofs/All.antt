@@ -6,10 +6,10 @@ use mathlib.Core.Bool.{Bool, true, false, false≢true}
 use mathlib.Core.List.{List, [], _∷_, map}
 use native.Mathlib.Numerals.{add-one}
 use native.Mathlib.Omega.{arith}
+use borrow.Author.Tests.{leb-true, leb-false}
 use lib.Dec.{leb}
 use lib.ListN.{length, getD, take, drop, set, replicate, length-take, length-map, drop-of-length-le}
 use lib.Seq.{drop-cons, getD-take}
-use borrow.Author.Tests.{leb-true, leb-false}
 use Rattle.refusal.specs.Judging.{both, either}
 use Rattle.refusal.proofs.Laws.{both-left, both-right, both-true}
 use Rattle.record.specs.Ranges.{all}

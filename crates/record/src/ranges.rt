@@ -197,7 +197,7 @@ pub(crate) fn are_counts_in_range(counts: [u32; 64], m: u32, k: u32) -> bool
     true
 }
 
-pub(crate) fn are_sizes_in_range(m: u32, k: u32, lent: usize) -> bool
+pub fn are_sizes_in_range(m: u32, k: u32, lent: usize) -> bool
     ensures { λ r. ⌜ r ≡ sizesInRange m k lent ⌝ }
 {
     both_hold(

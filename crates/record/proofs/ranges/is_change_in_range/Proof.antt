@@ -1,7 +1,7 @@
 -- `record::ranges::is_change_in_range` meets its contract: it joins its tests as the definition does.
 -- Assumes nothing.
-use Rattle.record.specs.Ranges.{changeInRange}
 use borrow.Author.Needs.{needs}
+use Rattle.record.specs.Ranges.{changeInRange}
 use Rattle.record.proofs.ranges.is_change_in_range.Statement.{statement}
 use Rattle.record.proofs.ranges.is_change_in_range.Tie as tie
 

@@ -1,7 +1,7 @@
 -- `record::ranges::is_change_stage_in_range` meets its contract: each case and each call by its definition.
 -- Assumes nothing.
-use Rattle.record.specs.Ranges.{changeStageInRange}
 use borrow.Author.Needs.{needs}
+use Rattle.record.specs.Ranges.{changeStageInRange}
 use Rattle.record.proofs.ranges.is_change_stage_in_range.Statement.{statement}
 use Rattle.record.proofs.ranges.is_change_stage_in_range.Tie as tie
 

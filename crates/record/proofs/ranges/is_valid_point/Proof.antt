@@ -1,7 +1,7 @@
 -- `record::ranges::is_valid_point` meets its contract: it joins its tests as the definition does.
 -- Assumes nothing.
-use Rattle.record.specs.Ranges.{validPoint}
 use borrow.Author.Needs.{needs}
+use Rattle.record.specs.Ranges.{validPoint}
 use Rattle.record.proofs.ranges.is_valid_point.Statement.{statement}
 use Rattle.record.proofs.ranges.is_valid_point.Tie as tie
 

@@ -1,0 +1,29 @@
+-- `table::reader::walk_advance` meets its contract, by its test.
+-- Assumes nothing.
+use Prim.Native.Nat.{_+_}
+use native.Mathlib.Omega.{arith}
+use borrow.Author.Tests.{lt-ltb, le-ltb}
+use borrow.Author.Needs.{needs}
+use Rattle.table.specs.Reader.{walkAdvance}
+use Rattle.table.proofs.reader.walk_advance.Statement.{statement}
+use Rattle.table.proofs.reader.walk_advance.Tie as tie
+
+cast-next : tie.Need-cast-next
+cast-next c = search needs
+
+add-next : tie.Need-add-next
+add-next c = search needs
+
+add-t8 : tie.Need-add-t8
+add-t8 c = search needs
+
+returns : tie.Need-returns
+unfolding walkAdvance
+returns c = rw (lt-ltb (c .before .before .before .args .walk .next + 1) (c .before .before .before .args .m) (omega arith))
+
+returns-2 : tie.Need-returns-2
+unfolding walkAdvance
+returns-2 c = rw (le-ltb (c .before .before .args .walk .next + 1) (c .before .before .args .m) (omega arith))
+
+pub walk-advance-spec : {M : Type 1} → statement M
+walk-advance-spec = tie.close (tie.spec cast-next add-next add-t8 returns returns-2)

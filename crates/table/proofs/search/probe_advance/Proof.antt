@@ -1,0 +1,36 @@
+-- `table::search::probe_advance` meets its contract, by its two tests.
+-- Assumes nothing.
+use Prim.Native.Nat.{ℕ}
+use mathlib.Core.Path.{_≡_, _∙_, sym, ap}
+use borrow.Author.Tests.{lt-ltb, le-ltb, eq-eqb, ne-eqb}
+use borrow.Author.Needs.{needs}
+use Rattle.table.specs.declared.search.Searched.the-variants.{Found}
+use Rattle.table.specs.Word.{pointOf}
+use Rattle.table.specs.Search.{probeAdvance, nextProbe}
+use Rattle.table.proofs.search.probe_advance.Statement.{statement}
+use Rattle.table.proofs.search.probe_advance.Tie as tie
+
+point-of-requires : tie.Need-point-of-requires
+point-of-requires c κs = search needs
+
+value-of-requires : tie.Need-value-of-requires
+value-of-requires c κs = search needs
+
+returns : tie.Need-returns
+unfolding probeAdvance
+returns c = rw (eq-eqb _ _ (sym (c .before .before .point-of .ensures) ∙ c .before .if1 .taken)) (ap (λ (v : ℕ). Found (record { index = c .before .before .before .args .probe .next; value = v })) (c .value-of .ensures))
+
+add-t8 : tie.Need-add-t8
+add-t8 c = search needs
+
+returns-2 : tie.Need-returns-2
+unfolding probeAdvance nextProbe
+returns-2 c = rw (ne-eqb _ _ (λ (e : pointOf (c .before .before .before .before .before .args .word) ≡ c .before .before .before .before .before .args .point). c .before .before .before .if1 .left (c .before .before .before .before .point-of .ensures ∙ e)), lt-ltb _ _ (c .before .if2 .taken))
+
+returns-3 : tie.Need-returns-3
+unfolding probeAdvance nextProbe
+returns-3 c = rw (ne-eqb _ _ (λ (e : pointOf (c .before .before .before .before .args .word) ≡ c .before .before .before .before .args .point). c .before .before .if1 .left (c .before .before .before .point-of .ensures ∙ e)), le-ltb _ _ (c .if2 .left))
+
+pub probe-advance-spec : {M : Type 1} → statement M
+probe-advance-spec =
+    tie.close (tie.spec point-of-requires value-of-requires returns add-t8 returns-2 returns-3)

@@ -1,0 +1,78 @@
+-- What calls hand back, in document 01's words, and for each case of the answer enums which of these it is.
+use Prim.Native.Nat.{ℕ, zero, suc}
+use mathlib.Core.List.{List, [], _∷_}
+use Rattle.refusal.specs.Refusals.{numberOf}
+use Rattle.record.specs.declared.Record.{Record}
+use Rattle.table.specs.declared.answers.FreshAnswer.{FreshAnswer}
+use Rattle.table.specs.declared.answers.FreshAnswer.the-variants.{Made, Refused as FreshAnswer·Refused}
+use Rattle.table.specs.declared.answers.StartAnswer.{StartAnswer}
+use Rattle.table.specs.declared.answers.StartAnswer.the-variants.{Started, Refused as StartAnswer·Refused}
+use Rattle.table.specs.declared.answers.ReaderAnswer.{ReaderAnswer}
+use Rattle.table.specs.declared.answers.ReaderAnswer.the-variants.{Underway, Found, Unknown, Word, LastWord, Refused as ReaderAnswer·Refused}
+use Rattle.table.specs.declared.answers.TotalAnswer.{TotalAnswer}
+use Rattle.table.specs.declared.answers.TotalAnswer.the-variants.{Total, Refused as TotalAnswer·Refused}
+use Rattle.table.specs.declared.answers.DisplayAnswer.{DisplayAnswer}
+use Rattle.table.specs.declared.answers.DisplayAnswer.the-variants.{Shown, Refused as DisplayAnswer·Refused}
+
+-- an answer, the same type for every call
+pub data Answer : Type 0 where
+  -- the operation has been started
+  started : Answer
+  -- "Any other step says “underway”"
+  underway : Answer
+  -- "A step that ends an operation hands back its answer": its values
+  ended : List ℕ → Answer
+  -- "6 and 7 end their operation"
+  endedWith : ℕ → Answer
+  -- "each walk step gives the word read"
+  walked : ℕ → Answer
+  -- "and the m-th also ends the walk"
+  walkedLast : ℕ → Answer
+  -- a call without steps: its values
+  gives : List ℕ → Answer
+  -- refused by that number, and nothing happened
+  refused : ℕ → Answer
+
+-- making a fresh record
+abbrev pub paperFresh : FreshAnswer → Answer
+paperFresh Made = gives []
+paperFresh (FreshAnswer·Refused r) = refused (numberOf r)
+
+-- starting an operation
+abbrev pub paperStart : StartAnswer → Answer
+paperStart Started = started
+paperStart (StartAnswer·Refused r) = refused (numberOf r)
+
+-- a reader's step; "a lookup the value"
+abbrev pub paperReader : ReaderAnswer → Answer
+paperReader Underway = underway
+paperReader (Found value) = ended (value ∷ [])
+paperReader Unknown = endedWith 7
+paperReader (Word word) = walked word
+paperReader (LastWord word) = walkedLast word
+paperReader (ReaderAnswer·Refused r) = refused (numberOf r)
+
+-- the disabled total
+abbrev pub paperTotal : TotalAnswer → Answer
+paperTotal (Total count) = gives (count ∷ [])
+paperTotal (TotalAnswer·Refused r) = refused (numberOf r)
+
+-- the one-line display
+abbrev pub paperDisplay : DisplayAnswer → Answer
+paperDisplay (Shown point) = gives (point ∷ [])
+paperDisplay (DisplayAnswer·Refused r) = refused (numberOf r)
+
+-- what a call leaves: the record, the slots and the answer
+pub record Outcome : Type 0 where
+  pub panel : Record
+  pub slots : List ℕ
+  pub answer : Answer
+
+-- the three together
+abbrev pub outcome : Record → List ℕ → Answer → Outcome
+outcome panel slots answer = record { panel = panel; slots = slots; answer = answer }
+
+-- "All leave slots, buffers and record untouched": what a call comes to if it is refused with that number, or, where that is 0, as given
+unfoldable pub unlessRefused : ℕ → Record → List ℕ → Outcome → Outcome
+unlessRefused zero panel slots done = done
+unlessRefused (suc n) panel slots done = outcome panel slots (refused (suc n))

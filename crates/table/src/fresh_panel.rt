@@ -1,0 +1,44 @@
+// The beginning of a panel.
+ghost use mathlib.Core.Path.{_≡_};
+ghost use lib.ListN.{length, replicate};
+ghost use Rattle.table.specs.Answers.{paperFresh, outcome};
+ghost use Rattle.table.specs.FreshPanel.{makeFresh};
+use crate::answers::FreshAnswer;
+use record::Record;
+use record::parts::fresh_record;
+use record::ranges::are_sizes_in_range;
+use refusal::Refusal;
+
+// What `fresh` leaves besides the slots: the record, and the answer.
+pub struct FreshOutcome {
+    pub panel: Record,
+    pub answer: FreshAnswer,
+}
+
+fn clear(slots: &mut [u64])
+    ensures { λ _. ⌜ now (slots .exit) ≡ replicate (length (now (slots .entry))) 0 ⌝ }
+{
+    let mut i = 0;
+    while i < slots.len() {
+        slots[i] = 0;
+        i += 1;
+    }
+}
+
+// Empties the slots and gives the record of a panel of m slots and k functions. Refused, it leaves the
+// slots and gives the record of zeros, with which every other call is refused too.
+pub fn fresh(slots: &mut [u64], m: u32, k: u32) -> FreshOutcome
+    ensures { λ r. ⌜ outcome (r .panel) (now (slots .exit)) (paperFresh (r .answer)) ≡ makeFresh m k (now (slots .entry)) ⌝ }
+{
+    if !are_sizes_in_range(m, k, slots.len()) {
+        return FreshOutcome {
+            panel: fresh_record(0, 0),
+            answer: FreshAnswer::Refused(Refusal::Misfit),
+        };
+    }
+    clear(slots);
+    FreshOutcome {
+        panel: fresh_record(m, k),
+        answer: FreshAnswer::Made,
+    }
+}

@@ -1,0 +1,162 @@
+// A reader's step.
+ghost use mathlib.Core.Path.{_≡_};
+ghost use Rattle.refusal.specs.Refusals.{paperJudged};
+ghost use Rattle.table.specs.Answers.{paperReader, outcome};
+ghost use Rattle.table.specs.Reader.{isIdle, readerAccess, paperMoved, lookupAdvance, walkAdvance, readerAdvance, stepRefusal, stepReader};
+ghost use Rattle.record.specs.Parts.{withWork};
+use crate::access::ReadAccess;
+use crate::access::word_read;
+use crate::answers::ReaderAnswer;
+use crate::search::Searched;
+use crate::search::search_access;
+use crate::search::search_advance;
+use record::Lookup;
+use record::ReaderWork;
+use record::Record;
+use record::Walk;
+use record::parts::with_work;
+use record::parts::work_of;
+use record::ranges::is_in_range;
+use refusal::Judged;
+use refusal::Refusal;
+
+// What a reader's step leaves: the record, and the answer.
+pub struct ReaderOutcome {
+    pub panel: Record,
+    pub answer: ReaderAnswer,
+}
+
+// A reader's work after a step, and the answer.
+pub(crate) struct Moved {
+    pub work: ReaderWork,
+    pub answer: ReaderAnswer,
+}
+
+pub(crate) fn has_no_work(work: ReaderWork) -> bool
+    ensures { λ r. ⌜ r ≡ isIdle work ⌝ }
+{
+    match work {
+        ReaderWork::Idle => true,
+        ReaderWork::LookingUp(_) => false,
+        ReaderWork::Walking(_) => false,
+    }
+}
+
+// Part 1: the access that comes next.
+fn reader_access(work: ReaderWork, m: u32) -> ReadAccess
+    ensures { λ r. ⌜ r ≡ readerAccess m work ⌝ }
+{
+    match work {
+        ReaderWork::Idle => ReadAccess::Nothing,
+        ReaderWork::LookingUp(lookup) => {
+            let search = lookup.search;
+            search_access(search, lookup.point, m)
+        }
+        ReaderWork::Walking(walk) => ReadAccess::Slot(walk.next),
+    }
+}
+
+// Part 3: what follows from the reach or from the word read.
+fn reader_advance(work: ReaderWork, m: u32, reach: u32, word: u64) -> Moved
+    ensures { λ r. ⌜ paperMoved r ≡ readerAdvance m reach work word ⌝ }
+{
+    match work {
+        ReaderWork::Idle => Moved {
+            work: ReaderWork::Idle,
+            answer: ReaderAnswer::Refused(Refusal::Idle),
+        },
+        ReaderWork::LookingUp(lookup) => lookup_advance(lookup, reach, word),
+        ReaderWork::Walking(walk) => walk_advance(walk, m, word),
+    }
+}
+
+fn lookup_advance(lookup: Lookup, reach: u32, word: u64) -> Moved
+    ensures { λ r. ⌜ paperMoved r ≡ lookupAdvance reach lookup word ⌝ }
+{
+    let search = lookup.search;
+    match search_advance(search, lookup.point, reach, word) {
+        Searched::Going(next) => Moved {
+            work: ReaderWork::LookingUp(Lookup {
+                point: lookup.point,
+                search: next,
+            }),
+            answer: ReaderAnswer::Underway,
+        },
+        Searched::Found(place) => Moved {
+            work: ReaderWork::Idle,
+            answer: ReaderAnswer::Found(place.value),
+        },
+        Searched::Unknown => Moved {
+            work: ReaderWork::Idle,
+            answer: ReaderAnswer::Unknown,
+        },
+    }
+}
+
+fn walk_advance(walk: Walk, m: u32, word: u64) -> Moved
+    ensures { λ r. ⌜ paperMoved r ≡ walkAdvance m walk word ⌝ }
+{
+    let next = walk.next as u64 + 1;
+    if next < m as u64 {
+        Moved {
+            work: ReaderWork::Walking(Walk {
+                next: walk.next + 1,
+            }),
+            answer: ReaderAnswer::Word(word),
+        }
+    } else {
+        Moved {
+            work: ReaderWork::Idle,
+            answer: ReaderAnswer::LastWord(word),
+        }
+    }
+}
+
+// Document 01's order: 1, 3, 5.
+fn judge_step(panel: Record, lent: usize, reader: u32) -> Judged
+    ensures { λ r. ⌜ paperJudged r ≡ stepRefusal lent panel reader ⌝ }
+{
+    if !is_in_range(panel, lent) {
+        return Judged::Refused(Refusal::Misfit);
+    }
+    if 15 < reader {
+        return Judged::Refused(Refusal::Reader);
+    }
+    if has_no_work(work_of(panel, reader)) {
+        return Judged::Refused(Refusal::Idle);
+    }
+    Judged::Allowed
+}
+
+// The reader's new work in its place, and the answer.
+fn finish(panel: Record, reader: u32, next: Moved) -> ReaderOutcome
+    ensures { λ r. ⌜ (r .panel ≡ withWork panel reader (next .work)) × (r .answer ≡ next .answer) ⌝ }
+{
+    let work = next.work;
+    let answer = next.answer;
+    ReaderOutcome {
+        panel: with_work(panel, reader, work),
+        answer: answer,
+    }
+}
+
+// The next step of a reader's lookup or walk.
+pub fn step_reader(panel: Record, slots: &[u64], reader: u32) -> ReaderOutcome
+    ensures { λ r. ⌜ outcome (r .panel) (now (slots .entry)) (paperReader (r .answer)) ≡ stepReader panel (now (slots .entry)) reader ⌝ }
+{
+    match judge_step(panel, slots.len(), reader) {
+        Judged::Refused(refusal) => ReaderOutcome {
+            panel: panel,
+            answer: ReaderAnswer::Refused(refusal),
+        },
+        Judged::Allowed => {
+            let work = work_of(panel, reader);
+            let word = word_read(slots, reader_access(work, panel.m));
+            finish(
+                panel,
+                reader,
+                reader_advance(work, panel.m, panel.reach, word),
+            )
+        }
+    }
+}

@@ -1,2 +1,4 @@
 pub mod AnswerLaws
+pub mod SearchLaws
+pub mod ReaderLaws
 pub mod DisabledLaws

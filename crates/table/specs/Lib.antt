@@ -5,4 +5,5 @@ pub mod Search
 pub mod Reader
 pub mod Starts
 pub mod FreshPanel
+pub mod ReaderFacts
 pub mod Disabled

@@ -1,0 +1,92 @@
+-- Laws of a search: each step goes on in range, finds a place in range or ends, and takes one of the steps that are left.
+-- Assumes nothing.
+use Prim.Native.Nat.{ℕ, _+_, _-_, _≤_}
+use mathlib.Core.Path.{_≡_, refl}
+use mathlib.Core.Bool.{Bool, true, false, cond}
+use native.Mathlib.Omega.{arith}
+use borrow.Author.Tests.{ltb-true, leb-true, le-leb, eqb-false}
+use lib.Dec.{ltb, leb, eqb}
+use Rattle.refusal.specs.Judging.{within}
+use Rattle.refusal.proofs.Laws.{both-left, both-right, both-true, within-low, within-high, is-within}
+use Rattle.record.specs.declared.Probe.{Probe}
+use Rattle.record.specs.declared.Search.{Search}
+use Rattle.record.specs.declared.Search.the-variants.{Unread, Probing}
+use Rattle.record.specs.Ranges.{searchInRange}
+use Rattle.table.specs.declared.search.Searched.{Searched}
+use Rattle.table.specs.declared.search.Searched.the-variants.{Going, Found, Unknown}
+use Rattle.table.specs.Word.{pointOf, valueOf}
+use Rattle.table.specs.Search.{firstProbe, nextProbe, probeAdvance, searchAdvance}
+
+-- the steps that are left of a search, at most
+unfoldable pub searchLeft : ℕ → Search → ℕ
+searchLeft k Unread = k + 1
+searchLeft k (Probing probe) = probe .reach - probe .next + 1
+
+-- the same of a search as it stands after a step
+unfoldable pub searchedLeft : ℕ → Searched → ℕ
+searchedLeft k (Going search) = searchLeft k search
+searchedLeft k (Found place) = 0
+searchedLeft k Unknown = 0
+
+-- what a search goes on with, or the place that it found, is in range
+unfoldable pub searchedInRange : ℕ → Searched → Bool
+searchedInRange k (Going search) = searchInRange k search
+searchedInRange k (Found place) = within 1 (place .index) k
+searchedInRange k Unknown = true
+
+module _ (k : ℕ) (probe : Probe) (h : searchInRange k (Probing probe) ≡ true) where
+  pub next-low : 1 ≤ probe .next
+  unfolding searchInRange
+  next-low = within-low 1 (probe .next) (probe .reach) (both-right (leb (probe .reach) k) (within 1 (probe .next) (probe .reach)) h)
+
+  pub next-high : probe .next ≤ probe .reach
+  unfolding searchInRange
+  next-high = within-high 1 (probe .next) (probe .reach) (both-right (leb (probe .reach) k) (within 1 (probe .next) (probe .reach)) h)
+
+  pub reach-high : probe .reach ≤ k
+  unfolding searchInRange
+  reach-high = leb-true (probe .reach) k (both-left (leb (probe .reach) k) (within 1 (probe .next) (probe .reach)) h)
+
+probing : (k reach next : ℕ) → reach ≤ k → 1 ≤ next → next ≤ reach → searchInRange k (Probing (record { reach = reach; next = next })) ≡ true
+unfolding searchInRange
+probing k reach next a b c = both-true (leb reach k) (within 1 next reach) (le-leb reach k a) (is-within 1 next reach b c)
+
+-- after a step: in range, and a step less to go
+pub record OneStep (k left : ℕ) (after : Searched) : Type 0 where
+  pub fits : searchedInRange k after ≡ true
+  pub less : searchedLeft k after + 1 ≤ left
+
+first-step : (k reach : ℕ) → reach ≤ k → OneStep k (k + 1) (firstProbe reach)
+unfolding firstProbe searchedInRange searchedLeft searchLeft
+first-step k reach h = go (eqb reach 0) refl
+  where
+    go : (b : Bool) → eqb reach 0 ≡ b → OneStep k (k + 1) (cond b Unknown (Going (Probing (record { reach = reach; next = 1 }))))
+    go true e = record { fits = refl; less = omega arith }
+    go false e = let some = eqb-false reach 0 e in record { fits = probing k reach 1 h (omega arith) (omega arith); less = omega arith }
+
+next-step : (k : ℕ) (probe : Probe) → searchInRange k (Probing probe) ≡ true → OneStep k (probe .reach - probe .next + 1) (nextProbe probe)
+unfolding nextProbe searchedInRange searchedLeft searchLeft
+next-step k probe h = go (ltb (probe .next) (probe .reach)) refl
+  where
+    go : (b : Bool) → ltb (probe .next) (probe .reach) ≡ b → OneStep k (probe .reach - probe .next + 1) (cond b (Going (Probing (record { reach = probe .reach; next = probe .next + 1 }))) Unknown)
+    go true e =
+        let below = ltb-true (probe .next) (probe .reach) e in
+        record { fits = probing k (probe .reach) (probe .next + 1) (reach-high k probe h) (omega arith) (omega arith); less = omega arith }
+    go false e = record { fits = refl; less = omega arith }
+
+probe-step : (k point : ℕ) (probe : Probe) (word : ℕ) → searchInRange k (Probing probe) ≡ true → OneStep k (probe .reach - probe .next + 1) (probeAdvance point probe word)
+unfolding probeAdvance searchedInRange searchedLeft
+probe-step k point probe word h = go (eqb (pointOf word) point)
+  where
+    go : (b : Bool) → OneStep k (probe .reach - probe .next + 1) (cond b (Found (record { index = probe .next; value = valueOf word })) (nextProbe probe))
+    go true =
+        record {
+          fits = is-within 1 (probe .next) k (next-low k probe h) (omega (arith, next-high k probe h, reach-high k probe h));
+          less = omega arith;
+        }
+    go false = next-step k probe h
+
+pub search-step : (k reach point : ℕ) (search : Search) (word : ℕ) → reach ≤ k → searchInRange k search ≡ true → OneStep k (searchLeft k search) (searchAdvance reach point search word)
+unfolding searchAdvance searchLeft
+search-step k reach point Unread word a h = first-step k reach a
+search-step k reach point (Probing probe) word a h = probe-step k point probe word h

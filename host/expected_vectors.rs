@@ -1,117 +1,55 @@
 //! What the program `vectors` has to print, worked out a second time from document 01: the
 //! stored output is compared with this.
 
+mod expected_disabled;
+mod expected_frames;
+mod expected_fresh;
+mod expected_ranges;
+mod expected_readers;
 mod reference_frame;
+mod reference_record;
+mod reference_table;
 
-use reference_frame::{read, write, Fields, Refusal};
+use reference_table::{position, z};
 
 const WORDS: [&str; 14] = [
     "misfit", "address", "reader", "engaged", "idle", "no perch", "unknown", "length", "map",
     "station", "turn", "altered", "code", "short",
 ];
 
-const P: u64 = 2_147_483_647;
-
-fn z(n: u64) -> u64 {
-    (0..n).fold(1, |value, _| 16807 * value % P)
+/// A refusal as an answer.
+fn refused(number: u32) -> String {
+    format!(" ! {number} {}", WORDS[number as usize - 1])
 }
 
-fn position(slots: u64, point: u64, index: u64) -> u64 {
-    (z(2 * index - 1) * point + z(2 * index)) % P % slots
-}
-
-fn refusal(refusal: Refusal) -> String {
-    let number = refusal as usize;
-    format!("! {number} {}", WORDS[number - 1])
-}
-
-fn show_read(bytes: &[u8]) {
-    let hex: String = bytes.iter().map(|byte| format!(" {byte:02x}")).collect();
-    let answer = match read(bytes) {
-        Ok(f) => format!(
-            "{} {} {} {} {} {} {}",
-            f.map, f.station, f.number, f.point, f.action, f.value, f.refusal
-        ),
-        Err(r) => refusal(r),
-    };
-    println!("read{hex}: {answer}");
-}
-
-fn show_write(room: usize, fields: &Fields) {
-    let mut buffer = vec![0; room];
-    match write(&mut buffer, fields) {
-        Ok(length) => show_read(&buffer[..length as usize]),
-        Err(r) => println!("write {}: {}", fields.map, refusal(r)),
-    }
-}
-
-fn faulty(map: u32, station: u32, number: u32, point: u32, action: u32) -> Fields {
-    Fields {
-        map,
-        station,
-        number,
-        point,
-        action,
-        value: 0,
-        refusal: 15,
-    }
-}
-
-fn each_kind() {
-    for map in [0x04, 0x0F, 0x14, 0x17, 0x24, 0x27] {
-        let sample = Fields {
-            map,
-            station: 32,
-            number: 16_777_215,
-            point: 2_147_483_646,
-            action: 2,
-            value: 4_294_967_295,
-            refusal: 14,
-        };
-        show_write(16, &sample);
-    }
-}
-
-fn refused() {
-    let reads: [&[u8]; 11] = [
-        &[],
-        &[0x40],
-        &[0x05, 0x21],
-        &[0x04, 0, 0, 0, 0, 0],
-        &[0x0F, 0x21, 0, 0, 0, 0, 0, 0, 0, 3],
-        &[0x0F, 0x20, 0, 0, 0, 0, 0, 0, 0, 3],
-        &[0x0F, 0x20, 0, 0, 1, 0, 0, 0, 0, 3],
-        &[0x0F, 0x20, 0, 0, 1, 0x7F, 0xFF, 0xFF, 0xFE, 3],
-        &[0x24, 0x7F, 0xFF, 0xFF, 0xFF, 0x0F],
-        &[0x24, 0x7F, 0xFF, 0xFF, 0xFE, 0x0F],
-        &[0x24, 0x7F, 0xFF, 0xFF, 0xFE, 0],
-    ];
-    for bytes in reads {
-        show_read(bytes);
-    }
-    show_write(0, &faulty(260, 33, 0, 0, 3));
-    show_write(0, &faulty(0x0F, 259, 0, 0, 3));
-    show_write(0, &faulty(0x0F, 1, 16_777_216, 0, 3));
-    show_write(0, &faulty(0x0F, 1, 1, 2_147_483_647, 3));
-    show_write(0, &faulty(0x0F, 1, 1, 1, 256));
-    show_write(9, &faulty(0x0F, 1, 1, 1, 0));
-    show_write(10, &faulty(0x0F, 1, 1, 1, 0));
-}
-
-fn main() {
+fn generator() {
     for n in [10000, 1, 2, 3, 4, 5, 6] {
         println!("z {n} {}", z(n));
     }
+}
+
+fn positions() {
     for point in [1, 9, 17] {
         let places: String = (1..5)
             .map(|i| format!(" {}", position(8, point, i)))
             .collect();
         println!("positions {point}:{places}");
     }
+}
+
+fn refusals() {
     for (row, word) in WORDS.iter().enumerate() {
         println!("refusal {} {word}", row + 1);
     }
-    show_read(&[0x0F, 3, 0, 0, 1, 0, 0, 0, 9, 2]);
-    each_kind();
-    refused();
+}
+
+fn main() {
+    generator();
+    positions();
+    refusals();
+    expected_frames::run();
+    expected_fresh::run();
+    expected_readers::run();
+    expected_ranges::run();
+    expected_disabled::run();
 }

@@ -5,6 +5,7 @@ use Rattle.record.specs.declared.Record.{Record}
 use Rattle.record.specs.declared.Reader.{Reader}
 use Rattle.record.specs.declared.ReaderWork.{ReaderWork}
 use Rattle.record.specs.declared.ReaderWork.the-variants.{Idle as ReaderWork·Idle}
+use Rattle.record.specs.declared.WriterWork.{WriterWork}
 use Rattle.record.specs.declared.WriterWork.the-variants.{Idle as WriterWork·Idle}
 use Rattle.record.specs.declared.Station.{Station}
 use Rattle.record.specs.declared.CommandAnswer.the-variants.{Value}
@@ -44,5 +45,18 @@ withWork panel reader work =
       counts = panel .counts;
       writer = panel .writer;
       readers = set (panel .readers) reader (record { work = work });
+      stations = panel .stations;
+    }
+
+-- the record with the writer's work replaced
+unfoldable pub withWriter : Record → WriterWork → Record
+withWriter panel work =
+    record {
+      m = panel .m;
+      k = panel .k;
+      reach = panel .reach;
+      counts = panel .counts;
+      writer = work;
+      readers = panel .readers;
       stations = panel .stations;
     }

@@ -1,6 +1,6 @@
 // Records made, and a part of one read or replaced.
 ghost use mathlib.Core.Path.{_≡_};
-ghost use Rattle.record.specs.Parts.{freshRecord, workOf, withWork};
+ghost use Rattle.record.specs.Parts.{freshRecord, workOf, withWork, withWriter};
 use crate::CommandAnswer;
 use crate::Reader;
 use crate::ReaderWork;
@@ -55,4 +55,22 @@ pub fn with_work(panel: Record, reader: u32, work: ReaderWork) -> Record
         next.readers[reader as usize] = Reader { work: work };
     }
     next
+}
+
+// The record with the writer's work replaced.
+pub fn with_writer(panel: Record, work: WriterWork) -> Record
+    ensures { λ r. ⌜ r ≡ withWriter panel work ⌝ }
+{
+    let counts = panel.counts;
+    let readers = panel.readers;
+    let stations = panel.stations;
+    Record {
+        m: panel.m,
+        k: panel.k,
+        reach: panel.reach,
+        counts: counts,
+        writer: work,
+        readers: readers,
+        stations: stations,
+    }
 }

@@ -1,11 +1,11 @@
--- `vectors::refusal` is safe: a word's letters are in its array.
+-- `vectors::printing::refusal` is safe: a word's letters are in its array.
 -- Assumes nothing.
 use native.Mathlib.Omega.{arith}
+use borrow.Author.Needs.{needs}
 use lib.ListN.{length-take}
 use Rattle.refusal.proofs.Laws.{word-fits}
-use borrow.Author.Needs.{needs}
-use Rattle.vectors.proofs.refusal.Statement.{statement}
-use Rattle.vectors.proofs.refusal.Tie as tie
+use Rattle.vectors.proofs.printing.refusal.Statement.{statement}
+use Rattle.vectors.proofs.printing.refusal.Tie as tie
 
 number-requires : tie.Need-number-requires
 number-requires c κs = search needs
@@ -33,9 +33,6 @@ slice-aggregate-text-2 c =
 text-requires-2 : tie.Need-text-requires-2
 text-requires-2 c κs = search needs
 
-line-end-requires : tie.Need-line-end-requires
-line-end-requires c κs = search needs
-
 returns : tie.Need-returns
 returns c = search needs
 
@@ -51,5 +48,4 @@ refusal-spec =
     array-share-prefix-letters
     slice-aggregate-text-2
     text-requires-2
-    line-end-requires
     returns)

@@ -1,10 +1,10 @@
--- `vectors::write` is safe: the part of the buffer that it lends has the room asked for.
+-- `vectors::frames::write` is safe: the part of the buffer that it lends has the room asked for.
 -- Assumes nothing.
 use native.Mathlib.Omega.{arith}
-use lib.ListN.{length-take}
 use borrow.Author.Needs.{needs}
-use Rattle.vectors.proofs.write.Statement.{statement}
-use Rattle.vectors.proofs.write.Tie as tie
+use lib.ListN.{length-take}
+use Rattle.vectors.proofs.frames.write.Statement.{statement}
+use Rattle.vectors.proofs.frames.write.Tie as tie
 
 array-borrow-prefix-buffer : tie.Need-array-borrow-prefix-buffer
 array-borrow-prefix-buffer c = search needs

@@ -1,10 +1,10 @@
--- `vectors::hexadecimal` ends: it counts up to the slice's length.
+-- `vectors::frames::hexadecimal` ends: it counts up to the slice's length.
 -- Assumes nothing.
 use Prim.Native.Nat.{_≤_, _-_}
 use native.Mathlib.Omega.{arith}
 use lib.ListN.{length}
-use Rattle.vectors.proofs.hexadecimal.Statement.{statement}
-use Rattle.vectors.proofs.hexadecimal.Tie as tie
+use Rattle.vectors.proofs.frames.hexadecimal.Statement.{statement}
+use Rattle.vectors.proofs.frames.hexadecimal.Tie as tie
 
 abbrev Inv-loop : tie.InvT-loop
 Inv-loop bytes i₀ i-end i = i ≤ length bytes

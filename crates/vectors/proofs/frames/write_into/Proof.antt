@@ -1,10 +1,10 @@
--- `vectors::write_into` is safe: the frame that it reads back is a part of the buffer.
+-- `vectors::frames::write_into` is safe: the frame that it reads back is a part of the buffer.
 -- Assumes nothing.
 use native.Mathlib.Omega.{arith}
-use lib.ListN.{length-take}
 use borrow.Author.Needs.{needs}
-use Rattle.vectors.proofs.write_into.Statement.{statement}
-use Rattle.vectors.proofs.write_into.Tie as tie
+use lib.ListN.{length-take}
+use Rattle.vectors.proofs.frames.write_into.Statement.{statement}
+use Rattle.vectors.proofs.frames.write_into.Tie as tie
 
 write-requires : tie.Need-write-requires
 write-requires c κs = search needs
@@ -42,8 +42,11 @@ slice-aggregate-text-2 c = search needs
 text-requires-2 : tie.Need-text-requires-2
 text-requires-2 c κs = search needs
 
-refusal-requires : tie.Need-refusal-requires
-refusal-requires c κs = search needs
+refused-requires : tie.Need-refused-requires
+refused-requires c κs = search needs
+
+line-end-requires : tie.Need-line-end-requires
+line-end-requires c κs = search needs
 
 same-length : tie.Need-same-length
 same-length c = search needs
@@ -79,7 +82,8 @@ write-into-spec =
     number-requires
     slice-aggregate-text-2
     text-requires-2
-    refusal-requires
+    refused-requires
+    line-end-requires
     same-length
     returns
     same-length-2

@@ -2,15 +2,13 @@
 -- Assumes nothing.
 use Prim.Native.Nat.{ℕ, zero, suc, _+_, _<_, _≤_}
 use mathlib.Core.Path.{_≡_, refl, ap, sym, _∙_}
-use mathlib.Core.Bool.{Bool, true, false, false≢true}
+use mathlib.Core.Bool.{Bool, true, false}
 use mathlib.Core.List.{List, [], _∷_, map}
 use native.Mathlib.Numerals.{add-one}
 use native.Mathlib.Omega.{arith}
-use borrow.Author.Tests.{leb-true, leb-false}
-use lib.Dec.{leb}
 use lib.ListN.{length, getD, take, drop, set, replicate, length-take, length-map, drop-of-length-le}
 use lib.Seq.{drop-cons, getD-take}
-use Rattle.refusal.specs.Judging.{both, either}
+use Rattle.refusal.specs.Judging.{both}
 use Rattle.refusal.proofs.Laws.{both-left, both-right, both-true}
 use Rattle.record.specs.Ranges.{all}
 
@@ -56,29 +54,13 @@ module _ {A : Type 0} (test : A → Bool) where
 pub mapped-length : {A B : Type 0} (l : List A) (f : A → B) (n : ℕ) → length (map f l) ≡ n → length l ≡ n
 mapped-length l f n h = sym (length-map l f) ∙ h
 
--- a loop over the first k elements, where the loop goes over all of them
+-- a loop over the first k elements
 module _ (test : ℕ → Bool) (l : List ℕ) (k i : ℕ) where
-  past : k ≤ i → all test (drop i (take k l)) ≡ true
-  past h = all-done test (take k l) i (omega (arith, length-take k l))
+  pub first-done : k ≤ i → all test (drop i (take k l)) ≡ true
+  first-done h = all-done test (take k l) i (omega (arith, length-take k l))
 
-  pub first-pass : i < length l → either (leb k i) (test (getD l i 0)) ≡ true → all test (drop (i + 1) (take k l)) ≡ all test (drop i (take k l))
-  unfolding either
-  first-pass h e = go (leb k i) refl e
-    where
-      go : (b : Bool) → leb k i ≡ b → either b (test (getD l i 0)) ≡ true → all test (drop (i + 1) (take k l)) ≡ all test (drop i (take k l))
-      go true p e =
-          let q = leb-true k i p in
-          all-done test (take k l) (i + 1) (omega (arith, length-take k l)) ∙ sym (past q)
-      go false p e =
-          let q = leb-false k i p in
-          all-passes test (take k l) i 0 (omega (arith, length-take k l)) (ap test (getD-take k l i 0 q) ∙ e)
+  pub first-passes : i < k → i < length l → test (getD l i 0) ≡ true → all test (drop (i + 1) (take k l)) ≡ all test (drop i (take k l))
+  first-passes h g e = all-passes test (take k l) i 0 (omega (arith, length-take k l)) (ap test (getD-take k l i 0 h) ∙ e)
 
-  pub first-fail : i < length l → either (leb k i) (test (getD l i 0)) ≡ false → all test (drop i (take k l)) ≡ false
-  unfolding either
-  first-fail h e = go (leb k i) refl e
-    where
-      go : (b : Bool) → leb k i ≡ b → either b (test (getD l i 0)) ≡ false → all test (drop i (take k l)) ≡ false
-      go true p e = absurd (false≢true (sym e))
-      go false p e =
-          let q = leb-false k i p in
-          all-fails test (take k l) i 0 (omega (arith, length-take k l)) (ap test (getD-take k l i 0 q) ∙ e)
+  pub first-fails : i < k → i < length l → test (getD l i 0) ≡ false → all test (drop i (take k l)) ≡ false
+  first-fails h g e = all-fails test (take k l) i 0 (omega (arith, length-take k l)) (ap test (getD-take k l i 0 h) ∙ e)

@@ -51,7 +51,7 @@ pub fn with_work(panel: Record, reader: u32, work: ReaderWork) -> Record
     ensures { λ r. ⌜ r ≡ withWork panel reader work ⌝ }
 {
     let mut next = panel;
-    if reader < 16 {
+    if reader <= 15 {
         next.readers[reader as usize] = Reader { work: work };
     }
     next

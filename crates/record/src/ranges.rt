@@ -190,7 +190,10 @@ pub(crate) fn are_counts_in_range(counts: [u32; 64], m: u32, k: u32) -> bool
     ensures { λ r. ⌜ r ≡ countsInRange m k counts ⌝ }
 {
     for i in 0..64 {
-        if !either_holds(k as usize <= i, counts[i] <= m) {
+        if k as usize <= i {
+            return true;
+        }
+        if m < counts[i] {
             return false;
         }
     }

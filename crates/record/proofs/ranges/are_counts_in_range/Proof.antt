@@ -1,15 +1,15 @@
 -- `record::ranges::are_counts_in_range` meets its contract: what is left of the first k counts passes exactly if all of them do.
 -- Assumes nothing.
 use Prim.Native.Nat.{ℕ, _≤_, _-_}
-use mathlib.Core.Bool.{Bool}
 use mathlib.Core.Path.{_≡_, _∙_, sym, refl}
+use mathlib.Core.Bool.{Bool}
 use native.Mathlib.Omega.{arith}
+use borrow.Author.Tests.{lt-leb, le-leb}
 use borrow.Author.Needs.{needs}
-use borrow.Author.Tests.{not-true, not-false}
-use lib.Dec.{leb}
 use lib.ListN.{length, take, drop, length-take}
+use lib.Dec.{leb}
 use Rattle.record.specs.Ranges.{all, countsInRange}
-use Rattle.record.proofs.All.{first-pass, first-fail, all-done}
+use Rattle.record.proofs.All.{first-done, first-passes, first-fails, all-done}
 use Rattle.record.proofs.ranges.are_counts_in_range.Statement.{statement}
 use Rattle.record.proofs.ranges.are_counts_in_range.Tie as tie
 
@@ -25,23 +25,25 @@ abbrev μ-loop : tie.MeasureT-loop
 loop-holds : tie.Need-loop-holds Inv-loop μ-loop
 loop-holds c = (search needs, c .good .0 .1 .0 .1, refl)
 
-mul-either-holds : tie.Need-mul-either-holds Inv-loop μ-loop
-mul-either-holds c = search needs
-
-array-read-either-holds : tie.Need-array-read-either-holds Inv-loop μ-loop
-array-read-either-holds c = search needs
-
-either-holds-requires : tie.Need-either-holds-requires Inv-loop μ-loop
-either-holds-requires c κs = search needs
-
 returns : tie.Need-returns Inv-loop μ-loop
 unfolding countsInRange
 returns c =
+    let a = c .before .before .before .args in
+    let l = c .before .before .loop in
+    sym (sym (l .inv .2) ∙ first-done (fits (a .m)) (a .t1) (a .k) (l .i) (c .if1 .taken))
+
+mul-if2 : tie.Need-mul-if2 Inv-loop μ-loop
+mul-if2 c = search needs
+
+array-read-if2 : tie.Need-array-read-if2 Inv-loop μ-loop
+array-read-if2 c = search needs
+
+returns-2 : tie.Need-returns-2 Inv-loop μ-loop
+unfolding countsInRange
+returns-2 c =
     let a = c .before .before .before .before .args in
     let l = c .before .before .before .loop in
-    sym
-    (sym (l .inv .2)
-    ∙ first-fail (fits (a .m)) (a .t1) (a .k) (l .i) (omega arith) (sym (c .before .either-holds .ensures) ∙ not-true _ (c .if1 .taken)))
+    sym (sym (l .inv .2) ∙ first-fails (fits (a .m)) (a .t1) (a .k) (l .i) (omega arith) (omega arith) (lt-leb _ (a .m) (c .if2 .taken)))
 
 add-i : tie.Need-add-i Inv-loop μ-loop
 add-i c = search needs
@@ -55,12 +57,12 @@ loop-again c =
     let l = c .before .before .before .loop in (
       search needs,
       l .inv .1,
-      first-pass (fits (a .m)) (a .t1) (a .k) (l .i) (omega arith) (sym (c .before .either-holds .ensures) ∙ not-false _ (c .if1 .left)) ∙ l .inv .2,
+      first-passes (fits (a .m)) (a .t1) (a .k) (l .i) (omega arith) (omega arith) (le-leb _ (a .m) (c .if2 .left)) ∙ l .inv .2,
     )
 
-returns-2 : tie.Need-returns-2 Inv-loop μ-loop
+returns-3 : tie.Need-returns-3 Inv-loop μ-loop
 unfolding countsInRange
-returns-2 c =
+returns-3 c =
     let a = c .before .before .args in
     let l = c .before .loop in
     sym (sym (l .inv .2) ∙ all-done (fits (a .m)) (take (a .k) (a .t1)) (l .i) (omega (arith, length-take (a .k) (a .t1))))
@@ -72,11 +74,11 @@ are-counts-in-range-spec =
     Inv-loop
     μ-loop
     loop-holds
-    mul-either-holds
-    array-read-either-holds
-    either-holds-requires
     returns
+    mul-if2
+    array-read-if2
+    returns-2
     add-i
     loop-less
     loop-again
-    returns-2)
+    returns-3)

@@ -1,6 +1,6 @@
 # run: proves and builds the test program and what it rests on, and runs it.
 # test: the gate, all tests and proofs from nothing.
-# bench: the frame library beside an independent Rust program, in one run.
+# bench: the frame library and the readers, each beside an independent Rust program, in one run.
 .PHONY: run test bench
 
 run:
@@ -12,4 +12,5 @@ test:
 
 bench:
 	rt staticlib frame
+	rt check reader_speed
 	host/bench

@@ -96,12 +96,11 @@ fn lookup_advance(lookup: Lookup, reach: u32, word: u64) -> Moved
 fn walk_advance(walk: Walk, m: u32, word: u64) -> Moved
     ensures { λ r. ⌜ paperMoved r ≡ walkAdvance m walk word ⌝ }
 {
-    let next = walk.next as u64 + 1;
-    if next < m as u64 {
+    let wide = walk.next as u64 + 1;
+    if wide < m as u64 {
+        let next = walk.next + 1;
         Moved {
-            work: ReaderWork::Walking(Walk {
-                next: walk.next + 1,
-            }),
+            work: ReaderWork::Walking(Walk { next: next }),
             answer: ReaderAnswer::Word(word),
         }
     } else {

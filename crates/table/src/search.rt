@@ -60,9 +60,10 @@ fn probe_advance(probe: Probe, point: u32, word: u64) -> Searched
         });
     }
     if probe.next < probe.reach {
+        let next = probe.next + 1;
         return Searched::Going(Search::Probing(Probe {
             reach: probe.reach,
-            next: probe.next + 1,
+            next: next,
         }));
     }
     Searched::Unknown

@@ -8,14 +8,14 @@ use Rattle.table.specs.Reader.{walkAdvance}
 use Rattle.table.proofs.reader.walk_advance.Statement.{statement}
 use Rattle.table.proofs.reader.walk_advance.Tie as tie
 
-cast-next : tie.Need-cast-next
-cast-next c = search needs
+cast-wide : tie.Need-cast-wide
+cast-wide c = search needs
+
+add-wide : tie.Need-add-wide
+add-wide c = search needs
 
 add-next : tie.Need-add-next
 add-next c = search needs
-
-add-t8 : tie.Need-add-t8
-add-t8 c = search needs
 
 returns : tie.Need-returns
 unfolding walkAdvance
@@ -26,4 +26,4 @@ unfolding walkAdvance
 returns-2 c = rw (le-ltb (c .before .before .args .walk .next + 1) (c .before .before .args .m) (omega arith))
 
 pub walk-advance-spec : {M : Type 1} → statement M
-walk-advance-spec = tie.close (tie.spec cast-next add-next add-t8 returns returns-2)
+walk-advance-spec = tie.close (tie.spec cast-wide add-wide add-next returns returns-2)

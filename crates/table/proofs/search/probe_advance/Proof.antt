@@ -20,8 +20,8 @@ returns : tie.Need-returns
 unfolding probeAdvance
 returns c = rw (eq-eqb _ _ (sym (c .before .before .point-of .ensures) ∙ c .before .if1 .taken)) (ap (λ (v : ℕ). Found (record { index = c .before .before .before .args .probe .next; value = v })) (c .value-of .ensures))
 
-add-t8 : tie.Need-add-t8
-add-t8 c = search needs
+add-next : tie.Need-add-next
+add-next c = search needs
 
 returns-2 : tie.Need-returns-2
 unfolding probeAdvance nextProbe
@@ -33,4 +33,4 @@ returns-3 c = rw (ne-eqb _ _ (λ (e : pointOf (c .before .before .before .before
 
 pub probe-advance-spec : {M : Type 1} → statement M
 probe-advance-spec =
-    tie.close (tie.spec point-of-requires value-of-requires returns add-t8 returns-2 returns-3)
+    tie.close (tie.spec point-of-requires value-of-requires returns add-next returns-2 returns-3)

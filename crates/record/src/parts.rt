@@ -39,11 +39,11 @@ pub fn fresh_record(m: u32, k: u32) -> Record
 pub fn work_of(panel: Record, reader: u32) -> ReaderWork
     ensures { λ r. ⌜ r ≡ workOf panel reader ⌝ }
 {
-    if reader < 16 {
-        let found = panel.readers[reader as usize];
-        return found.work;
+    if 15 < reader {
+        return ReaderWork::Idle;
     }
-    ReaderWork::Idle
+    let found = panel.readers[reader as usize];
+    found.work
 }
 
 // The record with a reader's work replaced; above 15 the record as it is.

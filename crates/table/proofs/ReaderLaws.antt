@@ -1,5 +1,5 @@
 -- Laws of a reader's calls, for whoever reasons about orders of calls: a start or a step of one reader leaves everything else as it was, and keeps a record
--- in range; a lookup takes at most k + 1 steps and a walk exactly m, whatever the others do in between.
+-- in range; a lookup takes at most k + 1 steps and a walk exactly m, whatever the others do in between; a step reads one of the slots lent.
 -- Assumes nothing.
 use Prim.Native.Nat.{ℕ, zero, suc, _+_, _-_, _≤_, _<_}
 use mathlib.Core.Path.{_≡_, refl, ap, _∙_}
@@ -10,6 +10,7 @@ use borrow.Author.Tests.{ltb-true, lt-ltb, not-false}
 use lib.Dec.{ltb}
 use lib.ListN.{length}
 use Rattle.refusal.proofs.Laws.{both-left, both-right, both-true, not-refused}
+use Rattle.hash.proofs.Laws.{position-below}
 use Rattle.record.specs.declared.Record.{Record}
 use Rattle.record.specs.declared.Search.{Search}
 use Rattle.record.specs.declared.Search.the-variants.{Unread, Probing}
@@ -19,10 +20,13 @@ use Rattle.record.specs.declared.ReaderWork.the-variants.{Idle, LookingUp, Walk
 use Rattle.record.specs.Parts.{workOf, withWork}
 use Rattle.record.specs.Ranges.{validPoint, searchInRange, lookupInRange, workInRange, inRange}
 use Rattle.record.proofs.Laws.{fields, sizes-in-range, work-in-range, with-work-in-range, others-stay}
+use Rattle.table.specs.declared.access.ReadAccess.{ReadAccess}
+use Rattle.table.specs.declared.access.ReadAccess.the-variants.{Nothing, Reach, Slot}
 use Rattle.table.specs.declared.search.Searched.{Searched}
 use Rattle.table.specs.declared.search.Searched.the-variants.{Going, Found, Unknown}
 use Rattle.table.specs.Answers.{Answer, started, walked, walkedLast, Outcome, outcome, unlessRefused}
-use Rattle.table.specs.Reader.{ReaderMove, lookupMove, lookupAdvance, walkAdvance, readerAdvance, moved, readerRuns, stepRefusal, stepReader}
+use Rattle.table.specs.Search.{searchAccess}
+use Rattle.table.specs.Reader.{readerAccess, ReaderMove, lookupMove, lookupAdvance, walkAdvance, readerAdvance, moved, readerRuns, stepRefusal, stepReader}
 use Rattle.table.specs.Starts.{lookupRefusal, startReader, startLookup, startWalk}
 use Rattle.table.specs.ReaderFacts.{OnlyWorkOf, Met, workAfter, ReachWithin, at-end, at-step}
 use Rattle.table.proofs.SearchLaws.{searchLeft, searchedLeft, searchedInRange, OneStep, search-step}
@@ -193,3 +197,28 @@ walk-underway m met h = walk-goes-on m 0 met (omega arith) ∙ ap (λ (n : ℕ).
 -- and the m-th ends it
 pub walk-ended : (m : ℕ) (met : List Met) → 1 ≤ m → length met ≡ m → workAfter m (Walking (record { next = 0 })) met ≡ Idle
 walk-ended m met h e = walk-ends m 0 met (omega arith) (omega arith)
+
+-- the slot that an access names; 0 where it names none
+slotOf : ReadAccess → ℕ
+slotOf Nothing = 0
+slotOf Reach = 0
+slotOf (Slot slot) = slot
+
+search-inside : (m point : ℕ) (search : Search) → 1 ≤ m → slotOf (searchAccess m point search) < m
+unfolding slotOf searchAccess
+search-inside m point Unread h = h
+search-inside m point (Probing probe) h = position-below m point (probe .next) h
+
+work-inside : (m k : ℕ) (work : ReaderWork) → 1 ≤ m → workInRange m k work ≡ true → slotOf (readerAccess m work) < m
+unfolding slotOf readerAccess workInRange
+work-inside m k Idle h e = h
+work-inside m k (LookingUp lookup) h e = search-inside m (lookup .point) (lookup .search) h
+work-inside m k (Walking walk) h e = ltb-true (walk .next) m e
+
+-- "A step reads .. exactly one slot": one of the slots lent, so that the word read is a slot's
+pub access-inside : (panel : Record) (slots : List ℕ) (reader slot : ℕ) → inRange (length slots) panel ≡ true → readerAccess (panel .m) (workOf panel reader) ≡ Slot slot → slot < length slots
+unfolding slotOf
+access-inside panel slots reader slot fits e =
+    let sizes = sizes-in-range (length slots) panel fits in
+    let inside = work-inside (panel .m) (panel .k) (workOf panel reader) (sizes .m-low) (work-in-range (length slots) panel reader fits) in
+    omega (arith, inside, sizes .whole, ap slotOf e)

@@ -18,14 +18,14 @@ element-copy-out-found c = search needs
 
 returns : tie.Need-returns
 unfolding workOf
-returns c = refl
-
-returns-2 : tie.Need-returns-2
-unfolding workOf
-returns-2 c =
+returns c =
     let p = c .before .args .t1 in
     let sixteen : length (p .readers) ≡ 16 = mapped-length (p .readers) _ 16 (c .before .good .0 .1 .1 .1 .1 .1 .1 .1 .0 .1 .0 .1) in
     ap (λ (r : Reader). r .work) (sym (List·getD-eq-default (p .readers) idleReader (omega arith)))
 
+returns-2 : tie.Need-returns-2
+unfolding workOf
+returns-2 c = refl
+
 pub work-of-spec : {M : Type 1} → statement M
-work-of-spec = tie.close (tie.spec mul-found element-copy-out-found returns returns-2)
+work-of-spec = tie.close (tie.spec returns mul-found element-copy-out-found returns-2)

@@ -53,16 +53,18 @@ fn first_probe(reach: u32) -> Searched
 fn probe_advance(probe: Probe, point: u32, word: u64) -> Searched
     ensures { λ r. ⌜ r ≡ probeAdvance point probe word ⌝ }
 {
+    let index = probe.next;
+    let reach = probe.reach;
     if point_of(word) == point {
         return Searched::Found(Place {
-            index: probe.next,
+            index: index,
             value: value_of(word),
         });
     }
-    if probe.next < probe.reach {
-        let next = probe.next + 1;
+    if index < reach {
+        let next = index + 1;
         return Searched::Going(Search::Probing(Probe {
-            reach: probe.reach,
+            reach: reach,
             next: next,
         }));
     }

@@ -25,11 +25,17 @@ add-next c = search needs
 
 returns-2 : tie.Need-returns-2
 unfolding probeAdvance nextProbe
-returns-2 c = rw (ne-eqb _ _ (λ (e : pointOf (c .before .before .before .before .before .args .word) ≡ c .before .before .before .before .before .args .point). c .before .before .before .if1 .left (c .before .before .before .before .point-of .ensures ∙ e)), lt-ltb _ _ (c .before .if2 .taken))
+returns-2 c =
+    let a = c .before .before .before .args in
+    let other : pointOf (a .word) ≡ a .point → ⊥ = λ e. c .before .if1 .left (c .before .before .point-of .ensures ∙ e) in
+    rw (ne-eqb _ _ other, lt-ltb (a .probe .next) (a .probe .reach) (c .if2 .taken))
 
 returns-3 : tie.Need-returns-3
 unfolding probeAdvance nextProbe
-returns-3 c = rw (ne-eqb _ _ (λ (e : pointOf (c .before .before .before .before .args .word) ≡ c .before .before .before .before .args .point). c .before .before .if1 .left (c .before .before .before .point-of .ensures ∙ e)), le-ltb _ _ (c .if2 .left))
+returns-3 c =
+    let a = c .before .before .before .args in
+    let other : pointOf (a .word) ≡ a .point → ⊥ = λ e. c .before .if1 .left (c .before .before .point-of .ensures ∙ e) in
+    rw (ne-eqb _ _ other, le-ltb (a .probe .next) (a .probe .reach) (c .if2 .left))
 
 pub probe-advance-spec : {M : Type 1} → statement M
 probe-advance-spec =

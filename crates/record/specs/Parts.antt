@@ -1,5 +1,6 @@
 -- Records made, and a part of one read or replaced.
-use Prim.Native.Nat.{ℕ}
+use Prim.Native.Nat.{ℕ, zero, suc}
+use mathlib.Core.List.{List}
 use lib.ListN.{getD, set, replicate}
 use Rattle.record.specs.declared.Record.{Record}
 use Rattle.record.specs.declared.Reader.{Reader}
@@ -15,8 +16,8 @@ abbrev pub idleReader : Reader
 idleReader = record { work = ReaderWork·Idle }
 
 -- "Each station's last number starts at 0"
-abbrev pub unheard : Station
-unheard = record { number = 0; point = 0; action = 0; answer = Value 0 }
+abbrev pub unheardStation : Station
+unheardStation = record { number = 0; point = 0; action = 0; answer = Value 0 }
 
 -- the record of a panel that stores nothing, everyone idle; with m and k 0 it is "all zeros, everyone idle"
 unfoldable pub freshRecord : ℕ → ℕ → Record
@@ -28,7 +29,7 @@ freshRecord m k =
       counts = replicate 64 0;
       writer = WriterWork·Idle;
       readers = replicate 16 idleReader;
-      stations = replicate 32 unheard;
+      stations = replicate 32 unheardStation;
     }
 
 -- a reader's work; above 15 there is none
@@ -59,4 +60,61 @@ withWriter panel work =
       writer = work;
       readers = panel .readers;
       stations = panel .stations;
+    }
+
+-- the record with the reach replaced
+unfoldable pub withReach : Record → ℕ → Record
+withReach panel reach =
+    record {
+      m = panel .m;
+      k = panel .k;
+      reach = reach;
+      counts = panel .counts;
+      writer = panel .writer;
+      readers = panel .readers;
+      stations = panel .stations;
+    }
+
+-- the element of that number, counted from 1; of another number what stands for none
+unfoldable pub numbered : {A : Type 0} → List A → ℕ → A → A
+numbered list zero none = none
+numbered list (suc i) none = getD list i none
+
+-- the list with the element of that number replaced; with another number the list as it is
+unfoldable pub withNumbered : {A : Type 0} → List A → ℕ → A → List A
+withNumbered list zero new = list
+withNumbered list (suc i) new = set list i new
+
+-- "for each function index 1 to k, how many stored points use it"
+unfoldable pub countOf : Record → ℕ → ℕ
+countOf panel index = numbered (panel .counts) index 0
+
+-- the record with that index's count replaced
+unfoldable pub withCount : Record → ℕ → ℕ → Record
+withCount panel index count =
+    record {
+      m = panel .m;
+      k = panel .k;
+      reach = panel .reach;
+      counts = withNumbered (panel .counts) index count;
+      writer = panel .writer;
+      readers = panel .readers;
+      stations = panel .stations;
+    }
+
+-- "for stations 1 to 32 the last command with its answer"
+unfoldable pub stationOf : Record → ℕ → Station
+stationOf panel station = numbered (panel .stations) station unheardStation
+
+-- the record with that station's last command replaced
+unfoldable pub withStation : Record → ℕ → Station → Record
+withStation panel station last =
+    record {
+      m = panel .m;
+      k = panel .k;
+      reach = panel .reach;
+      counts = panel .counts;
+      writer = panel .writer;
+      readers = panel .readers;
+      stations = withNumbered (panel .stations) station last;
     }

@@ -1,12 +1,24 @@
 // Records made, and a part of one read or replaced.
 ghost use mathlib.Core.Path.{_≡_};
-ghost use Rattle.record.specs.Parts.{freshRecord, workOf, withWork, withWriter};
+ghost use Rattle.record.specs.Parts.{unheardStation, freshRecord, workOf, withWork, withWriter, withReach, countOf, withCount, stationOf, withStation};
 use crate::CommandAnswer;
 use crate::Reader;
 use crate::ReaderWork;
 use crate::Record;
 use crate::Station;
 use crate::WriterWork;
+
+// A station that sent no command yet.
+fn unheard() -> Station
+    ensures { λ r. ⌜ r ≡ unheardStation ⌝ }
+{
+    Station {
+        number: 0,
+        point: 0,
+        action: 0,
+        answer: CommandAnswer::Value(0),
+    }
+}
 
 // The record of m slots and k functions with which a panel begins: nothing stored, everyone idle.
 pub fn fresh_record(m: u32, k: u32) -> Record
@@ -15,15 +27,10 @@ pub fn fresh_record(m: u32, k: u32) -> Record
     let idle = Reader {
         work: ReaderWork::Idle,
     };
-    let unheard = Station {
-        number: 0,
-        point: 0,
-        action: 0,
-        answer: CommandAnswer::Value(0),
-    };
+    let silent = unheard();
     let counts = [0u32; 64];
     let readers = [idle; 16];
-    let stations = [unheard; 32];
+    let stations = [silent; 32];
     Record {
         m: m,
         k: k,
@@ -73,4 +80,69 @@ pub fn with_writer(panel: Record, work: WriterWork) -> Record
         readers: readers,
         stations: stations,
     }
+}
+
+// The record with the reach replaced.
+pub fn with_reach(panel: Record, reach: u32) -> Record
+    ensures { λ r. ⌜ r ≡ withReach panel reach ⌝ }
+{
+    let mut next = panel;
+    next.reach = reach;
+    next
+}
+
+// How many stored points use an index, 1 to 64; of another index none do.
+pub fn count_of(panel: Record, index: u32) -> u32
+    ensures { λ r. ⌜ r ≡ countOf panel index ⌝ }
+{
+    if index == 0 {
+        return 0;
+    }
+    if 64 < index {
+        return 0;
+    }
+    panel.counts[(index - 1) as usize]
+}
+
+// The record with an index's count replaced; with an index outside 1 to 64 the record as it is.
+pub fn with_count(panel: Record, index: u32, count: u32) -> Record
+    ensures { λ r. ⌜ r ≡ withCount panel index count ⌝ }
+{
+    if index == 0 {
+        return panel;
+    }
+    if 64 < index {
+        return panel;
+    }
+    let mut next = panel;
+    next.counts[(index - 1) as usize] = count;
+    next
+}
+
+// The last command of a station, 1 to 32; another station sent none.
+pub fn station_of(panel: Record, station: u32) -> Station
+    ensures { λ r. ⌜ r ≡ stationOf panel station ⌝ }
+{
+    if station == 0 {
+        return unheard();
+    }
+    if 32 < station {
+        return unheard();
+    }
+    panel.stations[(station - 1) as usize]
+}
+
+// The record with a station's last command replaced; with a station outside 1 to 32 the record as it is.
+pub fn with_station(panel: Record, station: u32, last: Station) -> Record
+    ensures { λ r. ⌜ r ≡ withStation panel station last ⌝ }
+{
+    if station == 0 {
+        return panel;
+    }
+    if 32 < station {
+        return panel;
+    }
+    let mut next = panel;
+    next.stations[(station - 1) as usize] = last;
+    next
 }

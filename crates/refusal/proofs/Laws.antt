@@ -17,10 +17,10 @@ use Rattle.refusal.specs.Judging.{both, within, refuseIf, orElse}
 use Rattle.refusal.specs.Refusals.{numberOf, wordOf, codes, spelt}
 
 -- the row of a number
-rowOf : ℕ → Refusal
+pub rowOf : ℕ → Refusal
 rowOf n = getD (Misfit ∷ Address ∷ Reader ∷ Engaged ∷ Idle ∷ NoPerch ∷ Unknown ∷ Length ∷ Map ∷ Station ∷ Turn ∷ Altered ∷ Code ∷ Short ∷ []) (n - 1) Misfit
 
-row-of-number : (r : Refusal) → rowOf (numberOf r) ≡ r
+pub row-of-number : (r : Refusal) → rowOf (numberOf r) ≡ r
 unfolding rowOf
 row-of-number Misfit = refl
 row-of-number Address = refl

@@ -2,24 +2,29 @@
 -- Assumes nothing.
 use Prim.Native.Nat.{ℕ, zero, suc, _≤_}
 use mathlib.Core.Path.{_≡_, refl, ap}
-use mathlib.Core.List.{List}
+use mathlib.Core.List.{List, [], _∷_}
+use mathlib.Mathlib.Logic.Function.Defs.{LeftInverse·injective}
+use mathlib.Core.Bool.{cond}
+use lib.Dec.{eqb}
 use native.Mathlib.Omega.{arith}
 use lib.ListN.{getD}
 use Rattle.refusal.specs.declared.Refusal.{Refusal}
 use Rattle.refusal.specs.Refusals.{numberOf}
-use Rattle.refusal.proofs.Laws.{number-tells, number-positive}
+use Rattle.refusal.proofs.Laws.{rowOf, row-of-number, number-positive}
 use Rattle.record.specs.declared.Record.{Record}
 use Rattle.table.specs.declared.answers.FreshAnswer.{FreshAnswer}
 use Rattle.table.specs.declared.answers.FreshAnswer.the-variants.{Made, Refused as FreshAnswer·Refused}
 use Rattle.table.specs.declared.answers.StartAnswer.{StartAnswer}
 use Rattle.table.specs.declared.answers.StartAnswer.the-variants.{Started, Refused as StartAnswer·Refused}
 use Rattle.table.specs.declared.answers.ReaderAnswer.{ReaderAnswer}
-use Rattle.table.specs.declared.answers.ReaderAnswer.the-variants.{Underway, Found, Unknown, Word, LastWord, Refused as ReaderAnswer·Refused}
+use Rattle.table.specs.declared.answers.ReaderAnswer.the-variants.{Underway as ReaderAnswer·Underway, Found, Unknown as ReaderAnswer·Unknown, Word, LastWord, Refused as ReaderAnswer·Refused}
+use Rattle.table.specs.declared.answers.WriterAnswer.{WriterAnswer}
+use Rattle.table.specs.declared.answers.WriterAnswer.the-variants.{Underway as WriterAnswer·Underway, Placed, Changed, Removed, NoPerch, Unknown as WriterAnswer·Unknown, Refused as WriterAnswer·Refused}
 use Rattle.table.specs.declared.answers.TotalAnswer.{TotalAnswer}
 use Rattle.table.specs.declared.answers.TotalAnswer.the-variants.{Total, Refused as TotalAnswer·Refused}
 use Rattle.table.specs.declared.answers.DisplayAnswer.{DisplayAnswer}
 use Rattle.table.specs.declared.answers.DisplayAnswer.the-variants.{Shown, Refused as DisplayAnswer·Refused}
-use Rattle.table.specs.Answers.{Answer, started, underway, ended, endedWith, walked, walkedLast, gives, refused, Outcome, outcome, unlessRefused, paperFresh, paperStart, paperReader, paperTotal, paperDisplay}
+use Rattle.table.specs.Answers.{Answer, started, underway, lookedUp, placed, changed, removed, endedWith, walked, walkedLast, gives, refused, Outcome, outcome, unlessRefused, paperFresh, paperStart, paperReader, paperWriter, paperTotal, paperDisplay}
 
 module _ (panel : Record) (slots : List ℕ) (done : Outcome) where
   by-number : (n : ℕ) → 1 ≤ n → unlessRefused n panel slots done ≡ outcome panel slots (refused n)
@@ -38,92 +43,116 @@ module _ (panel : Record) (slots : List ℕ) (done : Outcome) where
 tag : Answer → ℕ
 tag started = 0
 tag underway = 1
-tag (ended values) = 2
-tag (endedWith n) = 3
-tag (walked word) = 4
-tag (walkedLast word) = 5
-tag (gives values) = 6
-tag (refused n) = 7
+tag (lookedUp value) = 2
+tag (placed slot index) = 3
+tag (changed value) = 4
+tag (removed reach) = 5
+tag (endedWith n) = 6
+tag (walked word) = 7
+tag (walkedLast word) = 8
+tag (gives values) = 9
+tag (refused n) = 10
 
--- the number that it carries, the first of several
+-- the number that it carries, or the first of two
 carried : Answer → ℕ
 carried started = 0
 carried underway = 0
-carried (ended values) = getD values 0 0
+carried (lookedUp value) = value
+carried (placed slot index) = slot
+carried (changed value) = value
+carried (removed reach) = reach
 carried (endedWith n) = n
 carried (walked word) = word
 carried (walkedLast word) = word
 carried (gives values) = getD values 0 0
 carried (refused n) = n
 
-module _ (r s : Refusal) where
-  same-refusal : refused (numberOf r) ≡ refused (numberOf s) → r ≡ s
-  unfolding carried
-  same-refusal e = number-tells r s (ap carried e)
+-- the second of two
+carriedSecond : Answer → ℕ
+carriedSecond started = 0
+carriedSecond underway = 0
+carriedSecond (lookedUp value) = 0
+carriedSecond (placed slot index) = index
+carriedSecond (changed value) = 0
+carriedSecond (removed reach) = 0
+carriedSecond (endedWith n) = 0
+carriedSecond (walked word) = 0
+carriedSecond (walkedLast word) = 0
+carriedSecond (gives values) = 0
+carriedSecond (refused n) = 0
+
+-- the cases of each enum by the answer's tag; a tag that the call never gives goes anywhere
+asFresh : Answer → FreshAnswer
+asFresh a = getD (Made ∷ Made ∷ Made ∷ Made ∷ Made ∷ Made ∷ Made ∷ Made ∷ Made ∷ Made ∷ FreshAnswer·Refused (rowOf (carried a)) ∷ []) (tag a) Made
+
+asStart : Answer → StartAnswer
+asStart a = getD (Started ∷ Started ∷ Started ∷ Started ∷ Started ∷ Started ∷ Started ∷ Started ∷ Started ∷ Started ∷ StartAnswer·Refused (rowOf (carried a)) ∷ []) (tag a) Started
+
+asReader : Answer → ReaderAnswer
+asReader a = getD (ReaderAnswer·Underway ∷ ReaderAnswer·Underway ∷ Found (carried a) ∷ ReaderAnswer·Underway ∷ ReaderAnswer·Underway ∷ ReaderAnswer·Underway ∷ ReaderAnswer·Unknown ∷ Word (carried a) ∷ LastWord (carried a) ∷ ReaderAnswer·Underway ∷ ReaderAnswer·Refused (rowOf (carried a)) ∷ []) (tag a) ReaderAnswer·Underway
+
+asWriter : Answer → WriterAnswer
+asWriter a = getD (WriterAnswer·Underway ∷ WriterAnswer·Underway ∷ WriterAnswer·Underway ∷ Placed (record { slot = carried a; index = carriedSecond a }) ∷ Changed (carried a) ∷ Removed (carried a) ∷ cond (eqb (carried a) 6) NoPerch WriterAnswer·Unknown ∷ WriterAnswer·Underway ∷ WriterAnswer·Underway ∷ WriterAnswer·Underway ∷ WriterAnswer·Refused (rowOf (carried a)) ∷ []) (tag a) WriterAnswer·Underway
+
+asTotal : Answer → TotalAnswer
+asTotal a = getD (Total (carried a) ∷ Total (carried a) ∷ Total (carried a) ∷ Total (carried a) ∷ Total (carried a) ∷ Total (carried a) ∷ Total (carried a) ∷ Total (carried a) ∷ Total (carried a) ∷ Total (carried a) ∷ TotalAnswer·Refused (rowOf (carried a)) ∷ []) (tag a) (Total (carried a))
+
+asDisplay : Answer → DisplayAnswer
+asDisplay a = getD (Shown (carried a) ∷ Shown (carried a) ∷ Shown (carried a) ∷ Shown (carried a) ∷ Shown (carried a) ∷ Shown (carried a) ∷ Shown (carried a) ∷ Shown (carried a) ∷ Shown (carried a) ∷ Shown (carried a) ∷ DisplayAnswer·Refused (rowOf (carried a)) ∷ []) (tag a) (Shown (carried a))
 
 pub fresh-tells : (a b : FreshAnswer) → paperFresh a ≡ paperFresh b → a ≡ b
-unfolding tag
-fresh-tells Made Made e = refl
-fresh-tells Made (FreshAnswer·Refused s) e = absurd (omega (arith, ap tag e))
-fresh-tells (FreshAnswer·Refused r) Made e = absurd (omega (arith, ap tag e))
-fresh-tells (FreshAnswer·Refused r) (FreshAnswer·Refused s) e = ap FreshAnswer·Refused (same-refusal r s e)
+unfolding asFresh tag carried
+fresh-tells = LeftInverse·injective asFresh paperFresh back
+  where
+    back : (a : FreshAnswer) → asFresh (paperFresh a) ≡ a
+    back Made = refl
+    back (FreshAnswer·Refused r) = ap FreshAnswer·Refused (row-of-number r)
 
 pub start-tells : (a b : StartAnswer) → paperStart a ≡ paperStart b → a ≡ b
-unfolding tag
-start-tells Started Started e = refl
-start-tells Started (StartAnswer·Refused s) e = absurd (omega (arith, ap tag e))
-start-tells (StartAnswer·Refused r) Started e = absurd (omega (arith, ap tag e))
-start-tells (StartAnswer·Refused r) (StartAnswer·Refused s) e = ap StartAnswer·Refused (same-refusal r s e)
-
-pub total-tells : (a b : TotalAnswer) → paperTotal a ≡ paperTotal b → a ≡ b
-unfolding tag carried
-total-tells (Total m) (Total n) e = ap Total (ap carried e)
-total-tells (Total m) (TotalAnswer·Refused s) e = absurd (omega (arith, ap tag e))
-total-tells (TotalAnswer·Refused r) (Total n) e = absurd (omega (arith, ap tag e))
-total-tells (TotalAnswer·Refused r) (TotalAnswer·Refused s) e = ap TotalAnswer·Refused (same-refusal r s e)
-
-pub display-tells : (a b : DisplayAnswer) → paperDisplay a ≡ paperDisplay b → a ≡ b
-unfolding tag carried
-display-tells (Shown m) (Shown n) e = ap Shown (ap carried e)
-display-tells (Shown m) (DisplayAnswer·Refused s) e = absurd (omega (arith, ap tag e))
-display-tells (DisplayAnswer·Refused r) (Shown n) e = absurd (omega (arith, ap tag e))
-display-tells (DisplayAnswer·Refused r) (DisplayAnswer·Refused s) e = ap DisplayAnswer·Refused (same-refusal r s e)
+unfolding asStart tag carried
+start-tells = LeftInverse·injective asStart paperStart back
+  where
+    back : (a : StartAnswer) → asStart (paperStart a) ≡ a
+    back Started = refl
+    back (StartAnswer·Refused r) = ap StartAnswer·Refused (row-of-number r)
 
 pub reader-tells : (a b : ReaderAnswer) → paperReader a ≡ paperReader b → a ≡ b
-unfolding tag carried
-reader-tells Underway Underway e = refl
-reader-tells Underway (Found y) e = absurd (omega (arith, ap tag e))
-reader-tells Underway Unknown e = absurd (omega (arith, ap tag e))
-reader-tells Underway (Word y) e = absurd (omega (arith, ap tag e))
-reader-tells Underway (LastWord y) e = absurd (omega (arith, ap tag e))
-reader-tells Underway (ReaderAnswer·Refused y) e = absurd (omega (arith, ap tag e))
-reader-tells (Found x) Underway e = absurd (omega (arith, ap tag e))
-reader-tells (Found x) (Found y) e = ap Found (ap carried e)
-reader-tells (Found x) Unknown e = absurd (omega (arith, ap tag e))
-reader-tells (Found x) (Word y) e = absurd (omega (arith, ap tag e))
-reader-tells (Found x) (LastWord y) e = absurd (omega (arith, ap tag e))
-reader-tells (Found x) (ReaderAnswer·Refused y) e = absurd (omega (arith, ap tag e))
-reader-tells Unknown Underway e = absurd (omega (arith, ap tag e))
-reader-tells Unknown (Found y) e = absurd (omega (arith, ap tag e))
-reader-tells Unknown Unknown e = refl
-reader-tells Unknown (Word y) e = absurd (omega (arith, ap tag e))
-reader-tells Unknown (LastWord y) e = absurd (omega (arith, ap tag e))
-reader-tells Unknown (ReaderAnswer·Refused y) e = absurd (omega (arith, ap tag e))
-reader-tells (Word x) Underway e = absurd (omega (arith, ap tag e))
-reader-tells (Word x) (Found y) e = absurd (omega (arith, ap tag e))
-reader-tells (Word x) Unknown e = absurd (omega (arith, ap tag e))
-reader-tells (Word x) (Word y) e = ap Word (ap carried e)
-reader-tells (Word x) (LastWord y) e = absurd (omega (arith, ap tag e))
-reader-tells (Word x) (ReaderAnswer·Refused y) e = absurd (omega (arith, ap tag e))
-reader-tells (LastWord x) Underway e = absurd (omega (arith, ap tag e))
-reader-tells (LastWord x) (Found y) e = absurd (omega (arith, ap tag e))
-reader-tells (LastWord x) Unknown e = absurd (omega (arith, ap tag e))
-reader-tells (LastWord x) (Word y) e = absurd (omega (arith, ap tag e))
-reader-tells (LastWord x) (LastWord y) e = ap LastWord (ap carried e)
-reader-tells (LastWord x) (ReaderAnswer·Refused y) e = absurd (omega (arith, ap tag e))
-reader-tells (ReaderAnswer·Refused x) Underway e = absurd (omega (arith, ap tag e))
-reader-tells (ReaderAnswer·Refused x) (Found y) e = absurd (omega (arith, ap tag e))
-reader-tells (ReaderAnswer·Refused x) Unknown e = absurd (omega (arith, ap tag e))
-reader-tells (ReaderAnswer·Refused x) (Word y) e = absurd (omega (arith, ap tag e))
-reader-tells (ReaderAnswer·Refused x) (LastWord y) e = absurd (omega (arith, ap tag e))
-reader-tells (ReaderAnswer·Refused x) (ReaderAnswer·Refused y) e = ap ReaderAnswer·Refused (same-refusal x y e)
+unfolding asReader tag carried
+reader-tells = LeftInverse·injective asReader paperReader back
+  where
+    back : (a : ReaderAnswer) → asReader (paperReader a) ≡ a
+    back ReaderAnswer·Underway = refl
+    back (Found value) = refl
+    back ReaderAnswer·Unknown = refl
+    back (Word word) = refl
+    back (LastWord word) = refl
+    back (ReaderAnswer·Refused r) = ap ReaderAnswer·Refused (row-of-number r)
+
+pub writer-tells : (a b : WriterAnswer) → paperWriter a ≡ paperWriter b → a ≡ b
+unfolding asWriter tag carried carriedSecond
+writer-tells = LeftInverse·injective asWriter paperWriter back
+  where
+    back : (a : WriterAnswer) → asWriter (paperWriter a) ≡ a
+    back WriterAnswer·Underway = refl
+    back (Placed spot) = refl
+    back (Changed value) = refl
+    back (Removed reach) = refl
+    back NoPerch = refl
+    back WriterAnswer·Unknown = refl
+    back (WriterAnswer·Refused r) = ap WriterAnswer·Refused (row-of-number r)
+
+pub total-tells : (a b : TotalAnswer) → paperTotal a ≡ paperTotal b → a ≡ b
+unfolding asTotal tag carried
+total-tells = LeftInverse·injective asTotal paperTotal back
+  where
+    back : (a : TotalAnswer) → asTotal (paperTotal a) ≡ a
+    back (Total count) = refl
+    back (TotalAnswer·Refused r) = ap TotalAnswer·Refused (row-of-number r)
+
+pub display-tells : (a b : DisplayAnswer) → paperDisplay a ≡ paperDisplay b → a ≡ b
+unfolding asDisplay tag carried
+display-tells = LeftInverse·injective asDisplay paperDisplay back
+  where
+    back : (a : DisplayAnswer) → asDisplay (paperDisplay a) ≡ a
+    back (Shown point) = refl
+    back (DisplayAnswer·Refused r) = ap DisplayAnswer·Refused (row-of-number r)

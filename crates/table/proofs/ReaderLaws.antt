@@ -23,7 +23,7 @@ use Rattle.record.proofs.Laws.{fields, sizes-in-range, work-in-range, with-work
 use Rattle.table.specs.declared.access.ReadAccess.{ReadAccess}
 use Rattle.table.specs.declared.access.ReadAccess.the-variants.{Nothing, Reach, Slot}
 use Rattle.table.specs.declared.search.Searched.{Searched}
-use Rattle.table.specs.declared.search.Searched.the-variants.{Going, Found, Unknown}
+use Rattle.table.specs.declared.search.Searched.the-variants.{Going, Answered}
 use Rattle.table.specs.Answers.{Answer, started, walked, walkedLast, Outcome, outcome, unlessRefused}
 use Rattle.table.specs.Search.{searchAccess}
 use Rattle.table.specs.Reader.{readerAccess, ReaderMove, lookupMove, lookupAdvance, walkAdvance, readerAdvance, moved, readerRuns, stepRefusal, stepReader}
@@ -95,8 +95,7 @@ record OneLess (m k left : ℕ) (work : ReaderWork) : Type 0 where
 lookup-moves : (m k point left : ℕ) (after : Searched) → validPoint point ≡ true → OneStep k left after → OneLess m k left (lookupMove point after .work)
 unfolding lookupMove workInRange lookupInRange searchedInRange searchedLeft stepsLeft
 lookup-moves m k point left (Going search) h s = record { in-range = both-true (validPoint point) (searchInRange k search) h (s .fits); less = omega (arith, s .less) }
-lookup-moves m k point left (Found place) h s = record { in-range = refl; less = omega arith }
-lookup-moves m k point left Unknown h s = record { in-range = refl; less = omega arith }
+lookup-moves m k point left (Answered answer) h s = record { in-range = refl; less = omega arith }
 
 walk-moves : (m k : ℕ) (walk : Walk) (word : ℕ) → OneLess m k (m - walk .next) (walkAdvance m walk word .work)
 unfolding walkAdvance workInRange stepsLeft

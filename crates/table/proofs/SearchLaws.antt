@@ -13,7 +13,9 @@ use Rattle.record.specs.declared.Search.{Search}
 use Rattle.record.specs.declared.Search.the-variants.{Unread, Probing}
 use Rattle.record.specs.Ranges.{searchInRange}
 use Rattle.table.specs.declared.search.Searched.{Searched}
-use Rattle.table.specs.declared.search.Searched.the-variants.{Going, Found, Unknown}
+use Rattle.table.specs.declared.search.Searched.the-variants.{Going, Answered}
+use Rattle.table.specs.declared.search.SearchAnswer.{SearchAnswer}
+use Rattle.table.specs.declared.search.SearchAnswer.the-variants.{Found, Unknown}
 use Rattle.table.specs.Word.{pointOf, valueOf}
 use Rattle.table.specs.Search.{firstProbe, nextProbe, probeAdvance, searchAdvance}
 
@@ -25,14 +27,17 @@ searchLeft k (Probing probe) = probe .reach - probe .next + 1
 -- the same of a search as it stands after a step
 unfoldable pub searchedLeft : ℕ → Searched → ℕ
 searchedLeft k (Going search) = searchLeft k search
-searchedLeft k (Found place) = 0
-searchedLeft k Unknown = 0
+searchedLeft k (Answered answer) = 0
+
+-- a place that was found is in range
+unfoldable pub answerInRange : ℕ → SearchAnswer → Bool
+answerInRange k (Found place) = within 1 (place .index) k
+answerInRange k Unknown = true
 
 -- what a search goes on with, or the place that it found, is in range
 unfoldable pub searchedInRange : ℕ → Searched → Bool
 searchedInRange k (Going search) = searchInRange k search
-searchedInRange k (Found place) = within 1 (place .index) k
-searchedInRange k Unknown = true
+searchedInRange k (Answered answer) = answerInRange k answer
 
 module _ (k : ℕ) (probe : Probe) (h : searchInRange k (Probing probe) ≡ true) where
   pub next-low : 1 ≤ probe .next
@@ -57,28 +62,28 @@ pub record OneStep (k left : ℕ) (after : Searched) : Type 0 where
   pub less : searchedLeft k after + 1 ≤ left
 
 first-step : (k reach : ℕ) → reach ≤ k → OneStep k (k + 1) (firstProbe reach)
-unfolding firstProbe searchedInRange searchedLeft searchLeft
+unfolding firstProbe searchedInRange answerInRange searchedLeft searchLeft
 first-step k reach h = go (eqb reach 0) refl
   where
-    go : (b : Bool) → eqb reach 0 ≡ b → OneStep k (k + 1) (cond b Unknown (Going (Probing (record { reach = reach; next = 1 }))))
+    go : (b : Bool) → eqb reach 0 ≡ b → OneStep k (k + 1) (cond b (Answered Unknown) (Going (Probing (record { reach = reach; next = 1 }))))
     go true e = record { fits = refl; less = omega arith }
     go false e = let some = eqb-false reach 0 e in record { fits = probing k reach 1 h (omega arith) (omega arith); less = omega arith }
 
 next-step : (k : ℕ) (probe : Probe) → searchInRange k (Probing probe) ≡ true → OneStep k (probe .reach - probe .next + 1) (nextProbe probe)
-unfolding nextProbe searchedInRange searchedLeft searchLeft
+unfolding nextProbe searchedInRange answerInRange searchedLeft searchLeft
 next-step k probe h = go (ltb (probe .next) (probe .reach)) refl
   where
-    go : (b : Bool) → ltb (probe .next) (probe .reach) ≡ b → OneStep k (probe .reach - probe .next + 1) (cond b (Going (Probing (record { reach = probe .reach; next = probe .next + 1 }))) Unknown)
+    go : (b : Bool) → ltb (probe .next) (probe .reach) ≡ b → OneStep k (probe .reach - probe .next + 1) (cond b (Going (Probing (record { reach = probe .reach; next = probe .next + 1 }))) (Answered Unknown))
     go true e =
         let below = ltb-true (probe .next) (probe .reach) e in
         record { fits = probing k (probe .reach) (probe .next + 1) (reach-high k probe h) (omega arith) (omega arith); less = omega arith }
     go false e = record { fits = refl; less = omega arith }
 
 probe-step : (k point : ℕ) (probe : Probe) (word : ℕ) → searchInRange k (Probing probe) ≡ true → OneStep k (probe .reach - probe .next + 1) (probeAdvance point probe word)
-unfolding probeAdvance searchedInRange searchedLeft
+unfolding probeAdvance searchedInRange answerInRange searchedLeft
 probe-step k point probe word h = go (eqb (pointOf word) point)
   where
-    go : (b : Bool) → OneStep k (probe .reach - probe .next + 1) (cond b (Found (record { index = probe .next; value = valueOf word })) (nextProbe probe))
+    go : (b : Bool) → OneStep k (probe .reach - probe .next + 1) (cond b (Answered (Found (record { index = probe .next; value = valueOf word }))) (nextProbe probe))
     go true =
         record {
           fits = is-within 1 (probe .next) k (next-low k probe h) (omega (arith, next-high k probe h, reach-high k probe h));

@@ -8,7 +8,9 @@ use Rattle.table.specs.declared.answers.FreshAnswer.the-variants.{Made, 
 use Rattle.table.specs.declared.answers.StartAnswer.{StartAnswer}
 use Rattle.table.specs.declared.answers.StartAnswer.the-variants.{Started, Refused as StartAnswer·Refused}
 use Rattle.table.specs.declared.answers.ReaderAnswer.{ReaderAnswer}
-use Rattle.table.specs.declared.answers.ReaderAnswer.the-variants.{Underway, Found, Unknown, Word, LastWord, Refused as ReaderAnswer·Refused}
+use Rattle.table.specs.declared.answers.ReaderAnswer.the-variants.{Underway as ReaderAnswer·Underway, Found, Unknown as ReaderAnswer·Unknown, Word, LastWord, Refused as ReaderAnswer·Refused}
+use Rattle.table.specs.declared.answers.WriterAnswer.{WriterAnswer}
+use Rattle.table.specs.declared.answers.WriterAnswer.the-variants.{Underway as WriterAnswer·Underway, Placed, Changed, Removed, NoPerch, Unknown as WriterAnswer·Unknown, Refused as WriterAnswer·Refused}
 use Rattle.table.specs.declared.answers.TotalAnswer.{TotalAnswer}
 use Rattle.table.specs.declared.answers.TotalAnswer.the-variants.{Total, Refused as TotalAnswer·Refused}
 use Rattle.table.specs.declared.answers.DisplayAnswer.{DisplayAnswer}
@@ -20,8 +22,14 @@ pub data Answer : Type 0 where
   started : Answer
   -- "Any other step says “underway”"
   underway : Answer
-  -- "A step that ends an operation hands back its answer": its values
-  ended : List ℕ → Answer
+  -- "A step that ends an operation hands back its answer": "a lookup the value"
+  lookedUp : ℕ → Answer
+  -- "a put the slot and index"
+  placed : ℕ → ℕ → Answer
+  -- "a change the new value"
+  changed : ℕ → Answer
+  -- "a removal the reach after"
+  removed : ℕ → Answer
   -- "6 and 7 end their operation"
   endedWith : ℕ → Answer
   -- "each walk step gives the word read"
@@ -43,14 +51,24 @@ abbrev pub paperStart : StartAnswer → Answer
 paperStart Started = started
 paperStart (StartAnswer·Refused r) = refused (numberOf r)
 
--- a reader's step; "a lookup the value"
+-- a reader's step
 abbrev pub paperReader : ReaderAnswer → Answer
-paperReader Underway = underway
-paperReader (Found value) = ended (value ∷ [])
-paperReader Unknown = endedWith 7
+paperReader ReaderAnswer·Underway = underway
+paperReader (Found value) = lookedUp value
+paperReader ReaderAnswer·Unknown = endedWith 7
 paperReader (Word word) = walked word
 paperReader (LastWord word) = walkedLast word
 paperReader (ReaderAnswer·Refused r) = refused (numberOf r)
+
+-- the writer's step
+abbrev pub paperWriter : WriterAnswer → Answer
+paperWriter WriterAnswer·Underway = underway
+paperWriter (Placed spot) = placed (spot .slot) (spot .index)
+paperWriter (Changed value) = changed value
+paperWriter (Removed reach) = removed reach
+paperWriter NoPerch = endedWith 6
+paperWriter WriterAnswer·Unknown = endedWith 7
+paperWriter (WriterAnswer·Refused r) = refused (numberOf r)
 
 -- the disabled total
 abbrev pub paperTotal : TotalAnswer → Answer

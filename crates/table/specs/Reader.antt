@@ -15,9 +15,11 @@ use Rattle.record.specs.Ranges.{inRange}
 use Rattle.table.specs.declared.access.ReadAccess.{ReadAccess}
 use Rattle.table.specs.declared.access.ReadAccess.the-variants.{Nothing, Slot}
 use Rattle.table.specs.declared.search.Searched.{Searched}
-use Rattle.table.specs.declared.search.Searched.the-variants.{Going, Found, Unknown}
+use Rattle.table.specs.declared.search.Searched.the-variants.{Going, Answered}
+use Rattle.table.specs.declared.search.SearchAnswer.{SearchAnswer}
+use Rattle.table.specs.declared.search.SearchAnswer.the-variants.{Found, Unknown}
 use Rattle.table.specs.declared.reader.Moved.{Moved}
-use Rattle.table.specs.Answers.{Answer, underway, ended, endedWith, walked, walkedLast, refused, Outcome, outcome, unlessRefused, paperReader}
+use Rattle.table.specs.Answers.{Answer, underway, lookedUp, endedWith, walked, walkedLast, refused, Outcome, outcome, unlessRefused, paperReader}
 use Rattle.table.specs.Access.{wordRead}
 use Rattle.table.specs.Search.{searchAccess, searchAdvance}
 
@@ -42,11 +44,15 @@ pub record ReaderMove : Type 0 where
 abbrev pub paperMoved : Moved → ReaderMove
 paperMoved moved = record { work = moved .work; answer = paperReader (moved .answer) }
 
--- a lookup goes on, ends "with its value", or ends "with 7"
+-- a lookup ends "with its value", or "with 7"
+unfoldable pub lookupAnswer : SearchAnswer → Answer
+lookupAnswer (Found place) = lookedUp (place .value)
+lookupAnswer Unknown = endedWith 7
+
+-- a lookup goes on, or ends
 unfoldable pub lookupMove : ℕ → Searched → ReaderMove
 lookupMove point (Going search) = record { work = LookingUp (record { point = point; search = search }); answer = underway }
-lookupMove point (Found place) = record { work = Idle; answer = ended (place .value ∷ []) }
-lookupMove point Unknown = record { work = Idle; answer = endedWith 7 }
+lookupMove point (Answered answer) = record { work = Idle; answer = lookupAnswer answer }
 
 -- part 3 of a lookup's step
 unfoldable pub lookupAdvance : ℕ → Lookup → ℕ → ReaderMove

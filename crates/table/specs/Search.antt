@@ -9,7 +9,8 @@ use Rattle.record.specs.declared.Search.the-variants.{Unread, Probing}
 use Rattle.table.specs.declared.access.ReadAccess.{ReadAccess}
 use Rattle.table.specs.declared.access.ReadAccess.the-variants.{Reach, Slot}
 use Rattle.table.specs.declared.search.Searched.{Searched}
-use Rattle.table.specs.declared.search.Searched.the-variants.{Going, Found, Unknown}
+use Rattle.table.specs.declared.search.Searched.the-variants.{Going, Answered}
+use Rattle.table.specs.declared.search.SearchAnswer.the-variants.{Found, Unknown}
 use Rattle.table.specs.Word.{pointOf, valueOf}
 
 -- part 1: "read the reach r; then positions 1 to r"
@@ -19,17 +20,18 @@ searchAccess m point (Probing probe) = Slot (positionOf m point (probe .next))
 
 -- part 3, the reach read: "With r = 0 the first step ends it"
 unfoldable pub firstProbe : ℕ → Searched
-firstProbe reach = cond (eqb reach 0) Unknown (Going (Probing (record { reach = reach; next = 1 })))
+firstProbe reach = cond (eqb reach 0) (Answered Unknown) (Going (Probing (record { reach = reach; next = 1 })))
 
 -- part 3, a position read: the next one, "else after the r-th with 7"
 unfoldable pub nextProbe : Probe → Searched
 nextProbe probe =
-    cond (ltb (probe .next) (probe .reach)) (Going (Probing (record { reach = probe .reach; next = probe .next + 1 }))) Unknown
+    cond (ltb (probe .next) (probe .reach)) (Going (Probing (record { reach = probe .reach; next = probe .next + 1 })))
+    (Answered Unknown)
 
 -- part 3, a position read: "ending on the point's slot with its value"
 unfoldable pub probeAdvance : ℕ → Probe → ℕ → Searched
 probeAdvance point probe word =
-    cond (eqb (pointOf word) point) (Found (record { index = probe .next; value = valueOf word })) (nextProbe probe)
+    cond (eqb (pointOf word) point) (Answered (Found (record { index = probe .next; value = valueOf word }))) (nextProbe probe)
 
 -- part 3
 unfoldable pub searchAdvance : ℕ → ℕ → Search → ℕ → Searched

@@ -4,7 +4,7 @@ ghost use lib.ListN.{getD};
 ghost use Rattle.table.specs.Access.{wordRead};
 
 // What a reading step touches.
-pub(crate) enum ReadAccess {
+pub enum ReadAccess {
     // a party without work makes no access
     Nothing,
     // the reach stands in the record
@@ -13,7 +13,7 @@ pub(crate) enum ReadAccess {
 }
 
 // The word read; 0 where no slot is.
-pub(crate) fn word_read(slots: &[u64], access: ReadAccess) -> u64
+pub fn word_read(slots: &[u64], access: ReadAccess) -> u64
     ensures { λ r. ⌜ r ≡ wordRead (now (slots .entry)) access ⌝ }
 {
     match access {

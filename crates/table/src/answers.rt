@@ -27,6 +27,28 @@ pub enum ReaderAnswer {
     Refused(Refusal),
 }
 
+// Of the writer's step.
+pub enum WriterAnswer {
+    Underway,
+    // the put has ended, the point stored there
+    Placed(Spot),
+    // the change has ended with the new value
+    Changed(u32),
+    // the removal has ended, with this reach after it
+    Removed(u32),
+    // the put has ended with refusal 6
+    NoPerch,
+    // the change or removal has ended with refusal 7
+    Unknown,
+    Refused(Refusal),
+}
+
+// Where a put stored its point: the slot, and the index of the position.
+pub struct Spot {
+    pub slot: u32,
+    pub index: u32,
+}
+
 // Of `disabled_total`.
 pub enum TotalAnswer {
     Total(u32),

@@ -1,20 +1,22 @@
 // The point table: each call takes the record by value and the slots lent, and gives the record and the
 // answer that document 01 states. Every step makes one access, in three parts: which access comes next
 // (pure), the access, and what follows from the word (pure).
-mod access;
+pub mod access;
 mod answers;
 mod disabled;
 mod fresh_panel;
 mod reader;
-mod search;
+pub mod search;
 mod starts;
-mod word;
+pub mod word;
 
 pub use answers::DisplayAnswer;
 pub use answers::FreshAnswer;
 pub use answers::ReaderAnswer;
+pub use answers::Spot;
 pub use answers::StartAnswer;
 pub use answers::TotalAnswer;
+pub use answers::WriterAnswer;
 pub use disabled::disabled_point;
 pub use disabled::disabled_total;
 pub use fresh_panel::FreshOutcome;

@@ -2,11 +2,12 @@
 ghost use mathlib.Core.Path.{_≡_};
 ghost use Rattle.refusal.specs.Refusals.{paperJudged};
 ghost use Rattle.table.specs.Answers.{paperReader, outcome};
-ghost use Rattle.table.specs.Reader.{isIdle, readerAccess, paperMoved, lookupAdvance, walkAdvance, readerAdvance, stepRefusal, stepReader};
+ghost use Rattle.table.specs.Reader.{isIdle, readerAccess, paperMoved, lookupAnswer, lookupAdvance, walkAdvance, readerAdvance, stepRefusal, stepReader};
 ghost use Rattle.record.specs.Parts.{withWork};
 use crate::access::ReadAccess;
 use crate::access::word_read;
 use crate::answers::ReaderAnswer;
+use crate::search::SearchAnswer;
 use crate::search::Searched;
 use crate::search::search_access;
 use crate::search::search_advance;
@@ -82,14 +83,19 @@ fn lookup_advance(lookup: Lookup, reach: u32, word: u64) -> Moved
             }),
             answer: ReaderAnswer::Underway,
         },
-        Searched::Found(place) => Moved {
+        Searched::Answered(answer) => Moved {
             work: ReaderWork::Idle,
-            answer: ReaderAnswer::Found(place.value),
+            answer: lookup_answer(answer),
         },
-        Searched::Unknown => Moved {
-            work: ReaderWork::Idle,
-            answer: ReaderAnswer::Unknown,
-        },
+    }
+}
+
+fn lookup_answer(answer: SearchAnswer) -> ReaderAnswer
+    ensures { λ r. ⌜ paperReader r ≡ lookupAnswer answer ⌝ }
+{
+    match answer {
+        SearchAnswer::Found(place) => ReaderAnswer::Found(place.value),
+        SearchAnswer::Unknown => ReaderAnswer::Unknown,
     }
 }
 

@@ -9,14 +9,19 @@ use record::Probe;
 use record::Search;
 
 // How a search stands after one of its steps.
-pub(crate) enum Searched {
+pub enum Searched {
     Going(Search),
+    Answered(SearchAnswer),
+}
+
+// What a search ends with.
+pub enum SearchAnswer {
     Found(Place),
     Unknown,
 }
 
 // Part 1: the access that comes next.
-pub(crate) fn search_access(search: Search, point: u32, m: u32) -> ReadAccess
+pub fn search_access(search: Search, point: u32, m: u32) -> ReadAccess
     ensures { λ r. ⌜ r ≡ searchAccess m point search ⌝ }
 {
     match search {
@@ -26,7 +31,7 @@ pub(crate) fn search_access(search: Search, point: u32, m: u32) -> ReadAccess
 }
 
 // Part 3: what follows from the reach, in the first step, and from the word read, in the others.
-pub(crate) fn search_advance(search: Search, point: u32, reach: u32, word: u64) -> Searched
+pub fn search_advance(search: Search, point: u32, reach: u32, word: u64) -> Searched
     ensures { λ r. ⌜ r ≡ searchAdvance reach point search word ⌝ }
 {
     match search {
@@ -40,7 +45,7 @@ fn first_probe(reach: u32) -> Searched
     ensures { λ r. ⌜ r ≡ firstProbe reach ⌝ }
 {
     if reach == 0 {
-        return Searched::Unknown;
+        return Searched::Answered(SearchAnswer::Unknown);
     }
     Searched::Going(Search::Probing(Probe {
         reach: reach,
@@ -56,10 +61,11 @@ fn probe_advance(probe: Probe, point: u32, word: u64) -> Searched
     let index = probe.next;
     let reach = probe.reach;
     if point_of(word) == point {
-        return Searched::Found(Place {
+        let place = Place {
             index: index,
             value: value_of(word),
-        });
+        };
+        return Searched::Answered(SearchAnswer::Found(place));
     }
     if index < reach {
         let next = index + 1;
@@ -68,5 +74,5 @@ fn probe_advance(probe: Probe, point: u32, word: u64) -> Searched
             next: next,
         }));
     }
-    Searched::Unknown
+    Searched::Answered(SearchAnswer::Unknown)
 }

@@ -6,7 +6,7 @@ use native.Mathlib.Omega.{arith}
 use borrow.Author.Needs.{needs}
 use borrow.Author.Tests.{not-true, not-false}
 use lib.ListN.{length, drop}
-use Rattle.record.specs.Parts.{unheard}
+use Rattle.record.specs.Parts.{unheardStation}
 use Rattle.record.specs.Ranges.{all, stationInRange, stationsInRange}
 use Rattle.record.proofs.All.{all-passes, all-fails, all-done}
 use Rattle.record.proofs.ranges.are_stations_in_range.Statement.{statement}
@@ -37,7 +37,7 @@ returns c =
     let l = c .before .before .before .before .loop in
     sym
     (sym (l .inv .2)
-    ∙ all-fails stationInRange (a .t1) (l .i) unheard (omega arith) (sym (c .before .is-station-in-range .ensures) ∙ not-true _ (c .if1 .taken)))
+    ∙ all-fails stationInRange (a .t1) (l .i) unheardStation (omega arith) (sym (c .before .is-station-in-range .ensures) ∙ not-true _ (c .if1 .taken)))
 
 add-i : tie.Need-add-i Inv-loop μ-loop
 add-i c = search needs
@@ -51,7 +51,7 @@ loop-again c =
     let l = c .before .before .before .before .loop in (
       search needs,
       l .inv .1,
-      all-passes stationInRange (a .t1) (l .i) unheard (omega arith) (sym (c .before .is-station-in-range .ensures) ∙ not-false _ (c .if1 .left)) ∙ l .inv .2,
+      all-passes stationInRange (a .t1) (l .i) unheardStation (omega arith) (sym (c .before .is-station-in-range .ensures) ∙ not-false _ (c .if1 .left)) ∙ l .inv .2,
     )
 
 returns-2 : tie.Need-returns-2 Inv-loop μ-loop

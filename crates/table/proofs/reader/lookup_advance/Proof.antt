@@ -1,10 +1,16 @@
--- `table::reader::lookup_advance` meets its contract, by how the search stands.
--- Assumes nothing.
-use mathlib.Core.Path.{_∙_, sym}
+use mathlib.Core.Path.{ap, _∙_, sym}
 use borrow.Author.Needs.{needs}
+use Rattle.record.specs.declared.ReaderWork.the-variants.{Idle as ReaderWork·Idle}
+use Rattle.table.specs.Answers.{Answer}
 use Rattle.table.specs.Reader.{lookupAdvance, lookupMove}
 use Rattle.table.proofs.reader.lookup_advance.Statement.{statement}
 use Rattle.table.proofs.reader.lookup_advance.Tie as tie
+
+-- `table::reader::lookup_advance` meets its contract, by how the search stands.
+-- Assumes nothing.
+
+-- `table::reader::lookup_advance` meets its contract, by how the search stands.
+-- Assumes nothing.
 
 search-advance-requires : tie.Need-search-advance-requires
 search-advance-requires c κs = search needs
@@ -12,11 +18,11 @@ search-advance-requires c κs = search needs
 enum-known-next : tie.Need-enum-known-next
 enum-known-next c = search needs
 
-enum-known-place : tie.Need-enum-known-place
-enum-known-place c = search needs
+enum-known-answer : tie.Need-enum-known-answer
+enum-known-answer c = search needs
 
-enum-told : tie.Need-enum-told
-enum-told c = search needs
+lookup-answer-requires : tie.Need-lookup-answer-requires
+lookup-answer-requires c κs = search needs
 
 returns : tie.Need-returns
 unfolding lookupAdvance lookupMove
@@ -24,11 +30,9 @@ returns c = rw (sym (c .before .before .before .search-advance .ensures) ∙ c .
 
 returns-2 : tie.Need-returns-2
 unfolding lookupAdvance lookupMove
-returns-2 c = rw (sym (c .before .before .before .search-advance .ensures) ∙ c .before .place .given .1)
-
-returns-3 : tie.Need-returns-3
-unfolding lookupAdvance lookupMove
-returns-3 c = rw (sym (c .before .before .search-advance .ensures) ∙ c .enum-told .given .1)
+returns-2 c =
+    rw (sym (c .before .before .before .before .search-advance .ensures) ∙ c .before .before .answer .given .1)
+    (ap (λ (a : Answer). record { work = ReaderWork·Idle; answer = a }) (c .lookup-answer .ensures))
 
 pub lookup-advance-spec : {M : Type 1} → statement M
 lookup-advance-spec =
@@ -36,8 +40,7 @@ lookup-advance-spec =
     (tie.spec
     search-advance-requires
     enum-known-next
-    enum-known-place
-    enum-told
+    enum-known-answer
+    lookup-answer-requires
     returns
-    returns-2
-    returns-3)
+    returns-2)

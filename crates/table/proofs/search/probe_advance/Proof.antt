@@ -4,7 +4,8 @@ use Prim.Native.Nat.{ℕ}
 use mathlib.Core.Path.{_≡_, _∙_, sym, ap}
 use borrow.Author.Tests.{lt-ltb, le-ltb, eq-eqb, ne-eqb}
 use borrow.Author.Needs.{needs}
-use Rattle.table.specs.declared.search.Searched.the-variants.{Found}
+use Rattle.table.specs.declared.search.Searched.the-variants.{Answered}
+use Rattle.table.specs.declared.search.SearchAnswer.the-variants.{Found}
 use Rattle.table.specs.Word.{pointOf}
 use Rattle.table.specs.Search.{probeAdvance, nextProbe}
 use Rattle.table.proofs.search.probe_advance.Statement.{statement}
@@ -18,7 +19,7 @@ value-of-requires c κs = search needs
 
 returns : tie.Need-returns
 unfolding probeAdvance
-returns c = rw (eq-eqb _ _ (sym (c .before .before .point-of .ensures) ∙ c .before .if1 .taken)) (ap (λ (v : ℕ). Found (record { index = c .before .before .before .args .probe .next; value = v })) (c .value-of .ensures))
+returns c = rw (eq-eqb _ _ (sym (c .before .before .point-of .ensures) ∙ c .before .if1 .taken)) (ap (λ (v : ℕ). Answered (Found (record { index = c .before .before .before .args .probe .next; value = v }))) (c .value-of .ensures))
 
 add-next : tie.Need-add-next
 add-next c = search needs

@@ -1,0 +1,115 @@
+// The writer's step.
+ghost use mathlib.Core.Path.{_≡_};
+ghost use Rattle.refusal.specs.Refusals.{paperJudged};
+ghost use Rattle.record.specs.Parts.{withWriter};
+ghost use Rattle.table.specs.Answers.{paperWriter, outcome};
+ghost use Rattle.writer.specs.Moves.{updated, paperMoved};
+ghost use Rattle.writer.specs.Step.{isIdle, writerAccess, writerAdvance, stepRefusal, stepWriter};
+use crate::change::change_access;
+use crate::change::change_advance;
+use crate::memory::WriterAccess;
+use crate::memory::perform;
+use crate::moves::Moved;
+use crate::moves::Update;
+use crate::moves::with_update;
+use crate::put::put_access;
+use crate::put::put_advance;
+use crate::removal::removal_access;
+use crate::removal::removal_advance;
+use record::Record;
+use record::WriterWork;
+use record::parts::with_writer;
+use record::ranges::is_in_range;
+use refusal::Judged;
+use refusal::Refusal;
+use table::WriterAnswer;
+use table::access::ReadAccess;
+
+// What the writer's step leaves besides the slots: the record, and the answer.
+pub struct WriterOutcome {
+    pub panel: Record,
+    pub answer: WriterAnswer,
+}
+
+pub(crate) fn has_no_work(work: WriterWork) -> bool
+    ensures { λ r. ⌜ r ≡ isIdle work ⌝ }
+{
+    match work {
+        WriterWork::Idle => true,
+        WriterWork::Putting(_) => false,
+        WriterWork::Changing(_) => false,
+        WriterWork::Removing(_) => false,
+    }
+}
+
+// Part 1: the access that comes next.
+fn writer_access(panel: Record, work: WriterWork) -> WriterAccess
+    ensures { λ r. ⌜ r ≡ writerAccess panel work ⌝ }
+{
+    match work {
+        WriterWork::Idle => WriterAccess::Read(ReadAccess::Nothing),
+        WriterWork::Putting(put) => put_access(put, panel.m, panel.reach),
+        WriterWork::Changing(change) => change_access(change, panel.m),
+        WriterWork::Removing(removal) => removal_access(panel, removal),
+    }
+}
+
+// Part 3: what follows from the reach, or from the word read or stored.
+fn writer_advance(panel: Record, work: WriterWork, word: u64) -> Moved
+    ensures { λ r. ⌜ paperMoved r ≡ writerAdvance panel work word ⌝ }
+{
+    match work {
+        WriterWork::Idle => Moved {
+            work: WriterWork::Idle,
+            update: Update::Nothing,
+            answer: WriterAnswer::Refused(Refusal::Idle),
+        },
+        WriterWork::Putting(put) => put_advance(put, panel.m, panel.k, panel.reach, word),
+        WriterWork::Changing(change) => change_advance(change, panel.reach, word),
+        WriterWork::Removing(removal) => removal_advance(panel, removal, word),
+    }
+}
+
+// Document 01's order: 1, 5.
+fn judge_step(panel: Record, lent: usize) -> Judged
+    ensures { λ r. ⌜ paperJudged r ≡ stepRefusal lent panel ⌝ }
+{
+    if !is_in_range(panel, lent) {
+        return Judged::Refused(Refusal::Misfit);
+    }
+    let work = panel.writer;
+    if has_no_work(work) {
+        return Judged::Refused(Refusal::Idle);
+    }
+    Judged::Allowed
+}
+
+// The record after the step, and the answer.
+fn finish(panel: Record, next: Moved) -> WriterOutcome
+    ensures { λ r. ⌜ (r .panel ≡ withWriter (updated panel (next .update)) (next .work)) × (r .answer ≡ next .answer) ⌝ }
+{
+    let work = next.work;
+    let update = next.update;
+    let answer = next.answer;
+    WriterOutcome {
+        panel: with_writer(with_update(panel, update), work),
+        answer: answer,
+    }
+}
+
+// The next step of the writer's put, change or removal.
+pub fn step_writer(panel: Record, slots: &mut [u64]) -> WriterOutcome
+    ensures { λ r. ⌜ outcome (r .panel) (now (slots .exit)) (paperWriter (r .answer)) ≡ stepWriter panel (now (slots .entry)) ⌝ }
+{
+    match judge_step(panel, slots.len()) {
+        Judged::Refused(refusal) => WriterOutcome {
+            panel: panel,
+            answer: WriterAnswer::Refused(refusal),
+        },
+        Judged::Allowed => {
+            let work = panel.writer;
+            let word = perform(slots, writer_access(panel, work));
+            finish(panel, writer_advance(panel, work, word))
+        }
+    }
+}

@@ -1,0 +1,47 @@
+-- `line::field::number_of` meets its contract, case by case.
+-- Assumes nothing.
+use borrow.Author.Needs.{needs}
+use Rattle.line.specs.LineState.{numberOf}
+use Rattle.line.proofs.field.number_of.Statement.{statement}
+use Rattle.line.proofs.field.number_of.Tie as tie
+
+enum-told : tie.Need-enum-told
+enum-told c = search needs
+
+enum-told-2 : tie.Need-enum-told-2
+enum-told-2 c = search needs
+
+enum-known-field : tie.Need-enum-known-field
+enum-known-field c = search needs
+
+enum-told-3 : tie.Need-enum-told-3
+enum-told-3 c = search needs
+
+returns : tie.Need-returns
+unfolding numberOf
+returns c = rw (c .enum-told .given .1)
+
+returns-2 : tie.Need-returns-2
+unfolding numberOf
+returns-2 c = rw (c .enum-told2 .given .1)
+
+returns-3 : tie.Need-returns-3
+unfolding numberOf
+returns-3 c = rw (c .before .field .given .1)
+
+returns-4 : tie.Need-returns-4
+unfolding numberOf
+returns-4 c = rw (c .enum-told3 .given .1)
+
+pub number-of-spec : {M : Type 1} → statement M
+number-of-spec =
+    tie.close
+    (tie.spec
+    enum-told
+    enum-told-2
+    enum-known-field
+    enum-told-3
+    returns
+    returns-2
+    returns-3
+    returns-4)

@@ -3,9 +3,13 @@
 
 mod frame_inputs;
 mod library_frame;
+// Not every function is used.
+#[allow(dead_code)]
+mod random;
 mod reference_frame;
 
-use frame_inputs::{damage, frame_bytes, valid_fields, Random, KINDS};
+use frame_inputs::{frame_bytes, valid_fields, KINDS};
+use random::{damage, Random};
 use reference_frame::Fields;
 use std::hint::black_box;
 use std::process::ExitCode;
@@ -27,7 +31,7 @@ struct Frames {
 }
 
 fn any_kind(random: &mut Random) -> u32 {
-    KINDS[random.within(0, 5) as usize].0
+    random.one_of(&KINDS).0
 }
 
 fn make_frames(random: &mut Random) -> Frames {

@@ -3,9 +3,11 @@
 
 mod frame_inputs;
 mod library_frame;
+mod random;
 mod reference_frame;
 
-use frame_inputs::{damage, frame_bytes, valid_fields, Random, KINDS};
+use frame_inputs::{frame_bytes, valid_fields, KINDS};
+use random::{damage, Random};
 use reference_frame::{Fields, Refusal};
 use std::fmt::Debug;
 use std::process::ExitCode;
@@ -128,10 +130,6 @@ fn compare_write(tally: &mut Tally, random: &mut Random, length: usize, fields: 
     tally.compare((length, fields), library, (reference.0, reference.1, copy));
 }
 
-fn random_bytes(random: &mut Random, length: usize) -> Vec<u8> {
-    (0..length).map(|_| random.byte()).collect()
-}
-
 fn random_length(random: &mut Random) -> usize {
     random.within(0, LONGEST as u32) as usize
 }
@@ -180,7 +178,7 @@ fn read_every_map(tally: &mut Tally, random: &mut Random) {
     for map in 0..=255 {
         for length in 0..=LONGEST {
             for _ in 0..40 {
-                let mut bytes = random_bytes(random, length);
+                let mut bytes = random.bytes(length);
                 if let Some(first) = bytes.first_mut() {
                     *first = map;
                 }
@@ -196,7 +194,7 @@ fn read_random(tally: &mut Tally, random: &mut Random) {
             0 => random.within(17, 600) as usize,
             _ => random_length(random),
         };
-        let bytes = random_bytes(random, length);
+        let bytes = random.bytes(length);
         compare_read(tally, &bytes);
     }
 }
@@ -207,7 +205,7 @@ fn edge(random: &mut Random, valid: u32, edges: &[u32]) -> u32 {
         0 => random.within(0, u32::MAX),
         1 => valid.wrapping_add(256),
         2 => valid.wrapping_add(1 << 24),
-        3..=6 => edges[random.within(0, edges.len() as u32 - 1) as usize],
+        3..=6 => random.one_of(edges),
         _ => valid,
     }
 }
@@ -265,7 +263,7 @@ fn write_every_map(tally: &mut Tally, random: &mut Random) {
 fn write_random_map(tally: &mut Tally, random: &mut Random) {
     for _ in 0..60_000 {
         let any = random.within(0, u32::MAX);
-        let (known, _) = KINDS[random.within(0, 5) as usize];
+        let (known, _) = random.one_of(&KINDS);
         let map = match random.within(0, 1) {
             0 => any,
             _ => any & !0xFF | known,

@@ -9,13 +9,14 @@ mod reference_record;
 #[allow(dead_code)]
 mod reference_table;
 
+mod child_program;
 mod reader_workload;
+mod timing;
 
 use reader_workload::Tally;
 use std::hint::black_box;
-use std::io::{Error, Write};
-use std::process::{Command, ExitCode, Stdio};
-use std::time::Instant;
+use std::process::ExitCode;
+use timing::timed;
 
 const PROGRAM: &str = "target/bin/reader_speed";
 const ROUNDS: usize = 5;
@@ -61,43 +62,21 @@ impl Best {
     }
 }
 
-/// The work's result and its wall time in seconds.
-fn timed<T>(work: impl FnOnce() -> T) -> (T, f64) {
-    let start = Instant::now();
-    let result = work();
-    (result, start.elapsed().as_secs_f64())
-}
-
-/// What the library's program prints.
-fn run_program(input: &str) -> Result<String, Error> {
-    let mut child = Command::new(PROGRAM)
-        .stdin(Stdio::piped())
-        .stdout(Stdio::piped())
-        .spawn()?;
-    if let Some(mut stdin) = child.stdin.take() {
-        stdin.write_all(input.as_bytes())?;
-    }
-    let output = child.wait_with_output()?;
-    if !output.status.success() {
-        return Err(Error::other(output.status.to_string()));
-    }
-    Ok(String::from_utf8_lossy(&output.stdout).into_owned())
-}
-
 /// One run of each side, which improves the best times, or what went wrong.
 fn compete(size: &Size, digit: u32, best: &mut Best) -> Result<(), String> {
     let input = format!("{}{digit}\n", size.letter);
-    let (printed, library) = timed(|| run_program(&input));
+    let (printed, library) = timed(|| child_program::run(PROGRAM, input.as_bytes()));
     let printed = printed.map_err(|error| {
         format!("{PROGRAM}: {error}; run from the repository root, after rt check reader_speed")
     })?;
 
     let (tally, reference) = timed(|| reader_workload::run(size.m, black_box(10_u32.pow(digit))));
     let Tally { steps, sum } = tally;
-    if printed != format!("{steps} {sum}\n") {
+    if printed != format!("{steps} {sum}\n").as_bytes() {
         return Err(format!(
-            "m = {}: the program printed {printed:?}, the reference has {steps} steps, sum {sum}",
-            size.m
+            "m = {}: the program printed \"{}\", the reference has {steps} steps, sum {sum}",
+            size.m,
+            printed.escape_ascii()
         ));
     }
     best.library = best.library.min(library);

@@ -3,8 +3,8 @@
 
 use std::ops::RangeInclusive;
 
-const SLOTS: RangeInclusive<u32> = 1..=4096;
-const FUNCTIONS: RangeInclusive<u32> = 1..=64;
+pub const SLOTS: RangeInclusive<u32> = 1..=4096;
+pub const FUNCTIONS: RangeInclusive<u32> = 1..=64;
 const POINTS: RangeInclusive<u32> = 1..=2_147_483_646;
 const STATIONS: RangeInclusive<u32> = 1..=32;
 const ACTIONS: RangeInclusive<u32> = 0..=2;

@@ -1,7 +1,7 @@
-//! A second table, so far its fresh panel, its readers and its disabled points, written from
-//! document 01 and not from the library.
+//! A second table: its fresh panel, its readers and its disabled points, written from document 01
+//! and not from the library. Its writer is in `reference_writer`.
 
-use crate::reference_record::{is_point, Reader, Record, Search};
+use crate::reference_record::{is_point, Place, Reader, Record, Search};
 
 const P: u64 = 2_147_483_647;
 
@@ -28,6 +28,13 @@ pub enum Step {
     Unknown,
     Word(u64),
     LastWord(u64),
+}
+
+/// How a search stands after one of its accesses.
+pub enum Searched {
+    Going(Search),
+    Found(Place),
+    Absent,
 }
 
 const fn next_z(z: u64) -> u64 {
@@ -61,16 +68,16 @@ pub fn word_of(point: u32, value: u32) -> u64 {
     u64::from(point) << 32 | u64::from(value)
 }
 
-fn point_of(word: u64) -> u32 {
+pub fn point_of(word: u64) -> u32 {
     (word >> 32) as u32
 }
 
-fn value_of(word: u64) -> u32 {
+pub fn value_of(word: u64) -> u32 {
     word as u32
 }
 
 /// Refusal 1.
-fn fit(record: &Record, slots: &[u64]) -> Result<(), Refusal> {
+pub fn fit(record: &Record, slots: &[u64]) -> Result<(), Refusal> {
     if record.in_range() && slots.len() == record.m as usize {
         Ok(())
     } else {
@@ -133,31 +140,45 @@ pub fn step_reader(record: &mut Record, slots: &[u64], reader: u32) -> Result<St
     let work = work_of(record, reader)?;
     let (answer, after) = match *work {
         Reader::Idle => return Err(Refusal::Idle),
-        Reader::LookingUp { point, search } => match search {
-            Search::Unread => search_on(point, reach_now, 1),
-            Search::Probing { reach, next } => probe(slots, point, reach, next),
-        },
+        Reader::LookingUp { point, search } => look_up(slots, reach_now, point, search),
         Reader::Walking { next } => walk(slots, next),
     };
     *work = after;
     Ok(answer)
 }
 
-/// A lookup that has not found its point yet: to position `next`, unless that is beyond the reach.
-fn search_on(point: u32, reach: u32, next: u32) -> (Step, Reader) {
-    if next > reach {
-        return (Step::Unknown, Reader::Idle);
+fn look_up(slots: &[u64], reach_now: u32, point: u32, search: Search) -> (Step, Reader) {
+    match search_step(slots, reach_now, point, search) {
+        Searched::Going(search) => (Step::Underway, Reader::LookingUp { point, search }),
+        Searched::Found(place) => (Step::Found(place.value), Reader::Idle),
+        Searched::Absent => (Step::Unknown, Reader::Idle),
     }
-    let search = Search::Probing { reach, next };
-    (Step::Underway, Reader::LookingUp { point, search })
 }
 
-fn probe(slots: &[u64], point: u32, reach: u32, next: u32) -> (Step, Reader) {
+/// One access of a search: it reads the reach, or one position.
+pub fn search_step(slots: &[u64], reach_now: u32, point: u32, search: Search) -> Searched {
+    match search {
+        Search::Unread => search_on(reach_now, 1),
+        Search::Probing { reach, next } => probe(slots, point, reach, next),
+    }
+}
+
+/// A point that is not found yet: to position `next`, unless that is beyond the reach.
+fn search_on(reach: u32, next: u32) -> Searched {
+    if next > reach {
+        Searched::Absent
+    } else {
+        Searched::Going(Search::Probing { reach, next })
+    }
+}
+
+fn probe(slots: &[u64], point: u32, reach: u32, next: u32) -> Searched {
     let word = slots[position(slots.len() as u32, point, next)];
     if point_of(word) == point {
-        (Step::Found(value_of(word)), Reader::Idle)
+        let value = value_of(word);
+        Searched::Found(Place { index: next, value })
     } else {
-        search_on(point, reach, next + 1)
+        search_on(reach, next + 1)
     }
 }
 

@@ -11,14 +11,14 @@ use Rattle.record.specs.Parts.{withWriter}
 use Rattle.record.specs.Ranges.{inRange}
 use Rattle.table.specs.declared.access.ReadAccess.the-variants.{Nothing as ReadAccess·Nothing}
 use Rattle.table.specs.Answers.{refused, Outcome, outcome, unlessRefused}
-use Rattle.writer.specs.declared.memory.WriterAccess.{WriterAccess}
-use Rattle.writer.specs.declared.memory.WriterAccess.the-variants.{Read}
-use Rattle.writer.specs.declared.moves.Update.the-variants.{Nothing as Update·Nothing}
-use Rattle.writer.specs.Memory.{accessRead, slotsAfter}
-use Rattle.writer.specs.Moves.{WriterMove, updated}
-use Rattle.writer.specs.Put.{putAccess, putAdvance}
-use Rattle.writer.specs.Change.{changeAccess, changeAdvance}
-use Rattle.writer.specs.Removal.{removalAccess, removalAdvance}
+use Rattle.moves.specs.declared.memory.WriterAccess.{WriterAccess}
+use Rattle.moves.specs.declared.memory.WriterAccess.the-variants.{Read}
+use Rattle.moves.specs.declared.update.Update.the-variants.{Nothing as Update·Nothing}
+use Rattle.moves.specs.Memory.{accessRead, slotsAfter}
+use Rattle.moves.specs.Moves.{WriterMove, updated}
+use Rattle.put.specs.Put.{putAccess, putAdvance}
+use Rattle.change.specs.Change.{changeAccess, changeAdvance}
+use Rattle.removal.specs.Removal.{removalAccess, removalAdvance}
 
 -- no put, change or removal underway
 unfoldable pub isIdle : WriterWork → Bool

@@ -1,12 +1,6 @@
 // The writer's machine: puts, changes and removals, a command's change among them. A start takes no
 // step; every step makes one access, in three parts: which access comes next (pure), the access, and
 // what follows from the word (pure).
-mod change;
-mod counts;
-mod memory;
-mod moves;
-mod put;
-mod removal;
 mod starts;
 mod step;
 

@@ -7,7 +7,7 @@ use denote.Ref.{now}
 use Rattle.refusal.specs.Refusals.{paperJudged}
 use Rattle.table.specs.Answers.{outcome, unlessRefused, paperWriter}
 use Rattle.table.proofs.AnswerLaws.{refused-outcome, allowed-outcome}
-use Rattle.writer.specs.Memory.{accessRead, slotsAfter}
+use Rattle.moves.specs.Memory.{accessRead, slotsAfter}
 use Rattle.writer.specs.Step.{writerAdvance, moved, writerRuns, stepWriter}
 use Rattle.writer.proofs.step.step_writer.Statement.{statement}
 use Rattle.writer.proofs.step.step_writer.Tie as tie

@@ -1,0 +1,43 @@
+// The counts of indices. A count stays in its range: on a record that no history leads to, one that
+// would leave it stays at its end.
+ghost use mathlib.Core.Path.{_≡_};
+ghost use Rattle.moves.specs.Counts.{counted, uncounted, largestCounted};
+use record::Record;
+use record::parts::count_of;
+use record::parts::with_count;
+
+// One point more uses the index.
+pub fn with_counted(panel: Record, index: u32) -> Record
+    ensures { λ r. ⌜ r ≡ counted panel index ⌝ }
+{
+    let count = count_of(panel, index);
+    if count < panel.m {
+        return with_count(panel, index, count + 1);
+    }
+    with_count(panel, index, panel.m)
+}
+
+// One point less uses the index.
+pub fn with_uncounted(panel: Record, index: u32) -> Record
+    ensures { λ r. ⌜ r ≡ uncounted panel index ⌝ }
+{
+    let count = count_of(panel, index);
+    if count == 0 {
+        return with_count(panel, index, 0);
+    }
+    with_count(panel, index, count - 1)
+}
+
+// The largest index of 1 to k that is counted, or 0.
+pub fn largest_counted(panel: Record) -> u32
+    ensures { λ r. ⌜ r ≡ largestCounted panel ⌝ }
+{
+    let mut index = panel.k;
+    while 0 < index {
+        if count_of(panel, index) != 0 {
+            return index;
+        }
+        index -= 1;
+    }
+    0
+}

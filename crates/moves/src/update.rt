@@ -1,0 +1,73 @@
+// What a step of the writer comes to: its work after it, what changes in the record besides, and the
+// answer.
+ghost use mathlib.Core.Path.{_≡_};
+ghost use Rattle.moves.specs.Moves.{updated, goesOn, ends, paperMoved};
+ghost use Rattle.table.specs.Answers.{paperWriter};
+use crate::counts::with_counted;
+use crate::counts::with_uncounted;
+use record::Record;
+use record::Station;
+use record::WriterWork;
+use record::parts::with_reach;
+use record::parts::with_station;
+use table::WriterAnswer;
+
+pub struct Moved {
+    pub work: WriterWork,
+    pub update: Update,
+    pub answer: WriterAnswer,
+}
+
+// What a step changes in the record besides the writer's work.
+pub enum Update {
+    Nothing,
+    Reach(u32),
+    // one point more uses the index
+    Counted(u32),
+    // one point less uses the index
+    Uncounted(u32),
+    Answered(LastCommand),
+}
+
+// A station's last command, with its answer.
+pub struct LastCommand {
+    pub station: u32,
+    pub last: Station,
+}
+
+pub fn with_update(panel: Record, update: Update) -> Record
+    ensures { λ r. ⌜ r ≡ updated panel update ⌝ }
+{
+    match update {
+        Update::Nothing => panel,
+        Update::Reach(reach) => with_reach(panel, reach),
+        Update::Counted(index) => with_counted(panel, index),
+        Update::Uncounted(index) => with_uncounted(panel, index),
+        Update::Answered(command) => {
+            let last = command.last;
+            with_station(panel, command.station, last)
+        }
+    }
+}
+
+// The operation goes on with this work.
+pub fn underway(work: WriterWork) -> Moved
+    ensures { λ r. ⌜ paperMoved r ≡ goesOn work ⌝ }
+{
+    Moved {
+        work: work,
+        update: Update::Nothing,
+        answer: WriterAnswer::Underway,
+    }
+}
+
+// The operation ends, and the writer is idle.
+pub fn ended(update: Update, answer: WriterAnswer) -> Moved
+    ensures { λ r. ⌜ paperMoved r ≡ ends update (paperWriter answer) ⌝ }
+{
+    Moved {
+        work: WriterWork::Idle,
+        update: update,
+        answer: answer,
+    }
+}

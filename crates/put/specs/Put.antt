@@ -1,0 +1,71 @@
+-- Document 01, "Steps": a put. Where it compares an index with the reach, "the record's own reach at that step is meant".
+use Prim.Native.Nat.{ℕ, _+_}
+use mathlib.Core.Bool.{cond}
+use lib.Dec.{ltb, eqb}
+use Rattle.hash.specs.Position.{positionOf}
+use Rattle.record.specs.declared.Put.{Put}
+use Rattle.record.specs.declared.PutStage.{PutStage}
+use Rattle.record.specs.declared.PutStage.the-variants.{Searching, Scanning, Found as PutStage·Found, Chosen}
+use Rattle.record.specs.declared.WriterWork.the-variants.{Putting}
+use Rattle.table.specs.declared.access.ReadAccess.the-variants.{Slot}
+use Rattle.table.specs.declared.search.Searched.{Searched}
+use Rattle.table.specs.declared.search.Searched.the-variants.{Going, Answered}
+use Rattle.table.specs.declared.search.SearchAnswer.{SearchAnswer}
+use Rattle.table.specs.declared.search.SearchAnswer.the-variants.{Found as SearchAnswer·Found, Unknown}
+use Rattle.table.specs.Answers.{underway, placed, endedWith}
+use Rattle.table.specs.Word.{wordOf}
+use Rattle.table.specs.Search.{searchAccess, searchAdvance}
+use Rattle.moves.specs.declared.memory.WriterAccess.{WriterAccess}
+use Rattle.moves.specs.declared.memory.WriterAccess.the-variants.{Read, StoreReach}
+use Rattle.moves.specs.declared.update.Update.the-variants.{Nothing, Reach, Counted}
+use Rattle.moves.specs.Memory.{storeWord}
+use Rattle.moves.specs.Moves.{WriterMove, goesOn, ends}
+
+-- part 1, by the stage: search; read positions 1 to k; "store the new word there"; "store the reach as i *first*, then store the slot"
+unfoldable pub putStageAccess : ℕ → ℕ → Put → PutStage → WriterAccess
+putStageAccess m reach put (Searching search) = Read (searchAccess m (put .point) search)
+putStageAccess m reach put (Scanning index) = Read (Slot (positionOf m (put .point) index))
+putStageAccess m reach put (PutStage·Found place) = storeWord m (put .point) (place .index) (wordOf (put .point) (put .value))
+putStageAccess m reach put (Chosen index) =
+    cond (ltb reach index) (StoreReach index) (storeWord m (put .point) index (wordOf (put .point) (put .value)))
+
+-- part 1: the access that comes next
+unfoldable pub putAccess : ℕ → ℕ → Put → WriterAccess
+putAccess m reach put = putStageAccess m reach put (put .stage)
+
+-- the put goes on at this stage
+unfoldable pub putAt : Put → PutStage → WriterMove
+putAt put stage = goesOn (Putting (record { point = put .point; value = put .value; stage = stage }))
+
+-- "If found, store the new word there. If not, read positions 1 to k"
+unfoldable pub putAnswered : Put → SearchAnswer → WriterMove
+putAnswered put (SearchAnswer·Found place) = putAt put (PutStage·Found place)
+putAnswered put Unknown = putAt put (Scanning 1)
+
+-- "search as a lookup does"
+unfoldable pub putSearched : Put → Searched → WriterMove
+putSearched put (Going search) = putAt put (Searching search)
+putSearched put (Answered answer) = putAnswered put answer
+
+-- "up to the first empty one, index i"; "No empty position: 6"
+unfoldable pub putScanned : ℕ → Put → ℕ → ℕ → WriterMove
+putScanned k put index word =
+    cond (eqb word 0) (putAt put (Chosen index))
+    (cond (ltb index k) (putAt put (Scanning (index + 1))) (ends Nothing (endedWith 6)))
+
+-- "If i exceeds the reach, store the reach as i *first*, then store the slot and count index i"
+unfoldable pub putTakes : ℕ → ℕ → Put → ℕ → WriterMove
+putTakes m reach put index =
+    cond (ltb reach index) (record { work = Putting put; update = Reach index; answer = underway })
+    (ends (Counted index) (placed (positionOf m (put .point) index) index))
+
+-- part 3, by the stage
+unfoldable pub putStageAdvance : ℕ → ℕ → ℕ → Put → PutStage → ℕ → WriterMove
+putStageAdvance m k reach put (Searching search) word = putSearched put (searchAdvance reach (put .point) search word)
+putStageAdvance m k reach put (Scanning index) word = putScanned k put index word
+putStageAdvance m k reach put (PutStage·Found place) word = ends Nothing (placed (positionOf m (put .point) (place .index)) (place .index))
+putStageAdvance m k reach put (Chosen index) word = putTakes m reach put index
+
+-- part 3: what follows from the reach, or from the word read or stored
+unfoldable pub putAdvance : ℕ → ℕ → ℕ → Put → ℕ → WriterMove
+putAdvance m k reach put word = putStageAdvance m k reach put (put .stage) word

@@ -1,0 +1,129 @@
+// A put's step: search; found, store the new word there; else take the first empty position, the reach
+// stored before the slot where the index exceeds it.
+ghost use mathlib.Core.Path.{_≡_};
+ghost use Rattle.moves.specs.Moves.{paperMoved};
+ghost use Rattle.put.specs.Put.{putAccess, putAt, putSearched, putAnswered, putScanned, putTakes, putAdvance};
+use moves::memory::WriterAccess;
+use moves::memory::store_word;
+use moves::update::Moved;
+use moves::update::Update;
+use moves::update::ended;
+use moves::update::underway;
+use record::Put;
+use record::PutStage;
+use record::WriterWork;
+use table::Spot;
+use table::WriterAnswer;
+use table::access::ReadAccess;
+use table::search::SearchAnswer;
+use table::search::Searched;
+use table::search::search_access;
+use table::search::search_advance;
+use table::word::word_of;
+
+// Part 1: the access that comes next.
+pub fn put_access(put: Put, m: u32, reach: u32) -> WriterAccess
+    ensures { λ r. ⌜ r ≡ putAccess m reach put ⌝ }
+{
+    let point = put.point;
+    let word = word_of(point, put.value);
+    let stage = put.stage;
+    match stage {
+        PutStage::Searching(search) => WriterAccess::Read(search_access(search, point, m)),
+        PutStage::Scanning(index) => {
+            WriterAccess::Read(ReadAccess::Slot(hash::position(m, point, index)))
+        }
+        PutStage::Found(place) => store_word(m, point, place.index, word),
+        PutStage::Chosen(index) => {
+            if reach < index {
+                WriterAccess::StoreReach(index)
+            } else {
+                store_word(m, point, index, word)
+            }
+        }
+    }
+}
+
+// Part 3: what follows from the reach, or from the word read or stored.
+pub fn put_advance(put: Put, m: u32, k: u32, reach: u32, word: u64) -> Moved
+    ensures { λ r. ⌜ paperMoved r ≡ putAdvance m k reach put word ⌝ }
+{
+    let stage = put.stage;
+    match stage {
+        PutStage::Searching(search) => {
+            put_searched(put, search_advance(search, put.point, reach, word))
+        }
+        PutStage::Scanning(index) => put_scanned(put, k, index, word),
+        PutStage::Found(place) => {
+            let slot = hash::position(m, put.point, place.index);
+            let spot = Spot {
+                slot: slot,
+                index: place.index,
+            };
+            ended(Update::Nothing, WriterAnswer::Placed(spot))
+        }
+        PutStage::Chosen(index) => put_takes(put, m, reach, index),
+    }
+}
+
+// The put goes on at this stage.
+fn put_at(put: Put, stage: PutStage) -> Moved
+    ensures { λ r. ⌜ paperMoved r ≡ putAt put stage ⌝ }
+{
+    underway(WriterWork::Putting(Put {
+        point: put.point,
+        value: put.value,
+        stage: stage,
+    }))
+}
+
+fn put_searched(put: Put, searched: Searched) -> Moved
+    ensures { λ r. ⌜ paperMoved r ≡ putSearched put searched ⌝ }
+{
+    match searched {
+        Searched::Going(search) => put_at(put, PutStage::Searching(search)),
+        Searched::Answered(answer) => put_answered(put, answer),
+    }
+}
+
+fn put_answered(put: Put, answer: SearchAnswer) -> Moved
+    ensures { λ r. ⌜ paperMoved r ≡ putAnswered put answer ⌝ }
+{
+    let SearchAnswer::Found(place) = answer else {
+        return put_at(put, PutStage::Scanning(1));
+    };
+    put_at(put, PutStage::Found(place))
+}
+
+// A position of the second search has been read.
+fn put_scanned(put: Put, k: u32, index: u32, word: u64) -> Moved
+    ensures { λ r. ⌜ paperMoved r ≡ putScanned k put index word ⌝ }
+{
+    if word == 0 {
+        return put_at(put, PutStage::Chosen(index));
+    }
+    if index < k {
+        let next = index + 1;
+        return put_at(put, PutStage::Scanning(next));
+    }
+    ended(Update::Nothing, WriterAnswer::NoPerch)
+}
+
+// The first empty position is taken: the reach first, where the index exceeds it.
+fn put_takes(put: Put, m: u32, reach: u32, index: u32) -> Moved
+    ensures { λ r. ⌜ paperMoved r ≡ putTakes m reach put index ⌝ }
+{
+    if reach < index {
+        return Moved {
+            work: WriterWork::Putting(put),
+            update: Update::Reach(index),
+            answer: WriterAnswer::Underway,
+        };
+    }
+    let slot = hash::position(m, put.point, index);
+    let spot = Spot {
+        slot: slot,
+        index: index,
+    };
+    ended(Update::Counted(index), WriterAnswer::Placed(spot))
+}

@@ -1,0 +1,23 @@
+-- `removal::is_last` meets its contract by those of its parts.
+-- Assumes nothing.
+use borrow.Author.Needs.{needs}
+use Rattle.removal.specs.Removal.{isLast}
+use Rattle.removal.proofs.is_last.Statement.{statement}
+use Rattle.removal.proofs.is_last.Tie as tie
+
+with-uncounted-requires : tie.Need-with-uncounted-requires
+with-uncounted-requires c κs = search needs
+
+count-of-requires : tie.Need-count-of-requires
+count-of-requires c κs = search needs
+
+both-hold-requires : tie.Need-both-hold-requires
+both-hold-requires c κs = search needs
+
+returns : tie.Need-returns
+unfolding isLast
+returns c = cc
+
+pub is-last-spec : {M : Type 1} → statement M
+is-last-spec =
+    tie.close (tie.spec with-uncounted-requires count-of-requires both-hold-requires returns)

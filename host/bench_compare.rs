@@ -1,0 +1,192 @@
+//! Compares the proved bench program, whose path is the argument, with the reference: whole
+//! outputs for fixed and pseudorandom inputs. Exit status 1 on any difference, if the program
+//! cannot be run, and if a case that must occur in the histories never did.
+
+mod bench_cases;
+mod bench_commands;
+mod bench_edges;
+mod bench_garbage;
+mod bench_histories;
+mod bench_line;
+mod bench_protocol;
+mod bench_workload;
+mod child_program;
+mod direct_table;
+mod random;
+
+// The plain list's changes are no commands of the bench.
+#[allow(dead_code)]
+mod plain_list;
+// Of these, only the hash functions, the words and the ranges are used.
+#[allow(dead_code)]
+mod reference_record;
+#[allow(dead_code)]
+mod reference_table;
+
+use bench_cases::{feed, Case};
+use bench_histories::History;
+use plain_list::PlainList;
+use random::Random;
+use std::path::Path;
+use std::process::ExitCode;
+
+const GARBAGE: usize = 600;
+const HISTORIES: usize = 1500;
+
+/// The differences that are printed one by one.
+const SHOWN: u64 = 10;
+
+/// Document 01's example.
+const EXAMPLE: &str = "8 4\nP 1 5\nP 9 6\nP 17 7\nL 17\nR 9\nL 9\n";
+const EXAMPLE_PRINTED: &str = "\
+panel 8 4
+P 1 0 1
+P 9 2 2
+P 17 3 3
+L 17 7
+R 9 3
+L 9 ! 7
+reach 3 points 2
+";
+
+/// m, k, points and commands of histories on larger panels.
+const LARGER: [[u32; 4]; 6] = [
+    [4096, 64, 6000, 30_000],
+    [4096, 1, 6000, 30_000],
+    [4095, 4, 6000, 30_000],
+    [257, 33, 400, 10_000],
+    [64, 64, 100, 10_000],
+    [1, 64, 3, 1000],
+];
+
+struct Comparison {
+    program: String,
+    inputs: u64,
+    differences: u64,
+}
+
+impl Comparison {
+    fn compare(&mut self, input: &[u8]) -> Result<(), String> {
+        let expected = reference(input);
+        let printed = child_program::run(&self.program, input).map_err(|error| {
+            let input = start_of(input);
+            format!("{}: {error}, with the input \"{input}\"", self.program)
+        })?;
+        self.inputs += 1;
+        if printed != expected {
+            self.differences += 1;
+            if self.differences <= SHOWN {
+                show(input, &printed, &expected);
+            }
+        }
+        Ok(())
+    }
+}
+
+/// What the reference prints.
+fn reference(input: &[u8]) -> Vec<u8> {
+    let mut output = Vec::new();
+    bench_protocol::run(input, &mut output).expect("a vector takes every byte");
+    output
+}
+
+/// The first line in which the two outputs differ.
+fn show(input: &[u8], printed: &[u8], expected: &[u8]) {
+    let mut expected = expected.split_inclusive(|&byte| byte == b'\n');
+    let mut printed = printed.split_inclusive(|&byte| byte == b'\n');
+    let mut number = 0;
+    let (printed, expected) = loop {
+        number += 1;
+        match (printed.next(), expected.next()) {
+            (Some(line), Some(other)) if line == other => {}
+            lines => break lines,
+        }
+    };
+    println!("the input \"{}\"", start_of(input));
+    println!(
+        "  program   line {number} \"{}\"",
+        start_of(printed.unwrap_or_default())
+    );
+    println!(
+        "  reference line {number} \"{}\"",
+        start_of(expected.unwrap_or_default())
+    );
+}
+
+/// What can be shown of bytes on a line.
+fn start_of(bytes: &[u8]) -> String {
+    let start = &bytes[..bytes.len().min(300)];
+    let more = if start.len() < bytes.len() { ".." } else { "" };
+    format!("{}{more}", start.escape_ascii())
+}
+
+/// Small histories; gives the cases that never occurred.
+fn compare_histories(
+    comparison: &mut Comparison,
+    random: &mut Random,
+) -> Result<Vec<Case>, String> {
+    let mut missing = Case::ALL.to_vec();
+    for _ in 0..HISTORIES {
+        let history = History::small(random);
+        let mut list = PlainList::new(history.m, history.k);
+        for &command in &history.commands {
+            let case = feed(&mut list, command);
+            missing.retain(|&other| other != case);
+        }
+        comparison.compare(history.to_string().as_bytes())?;
+    }
+    Ok(missing)
+}
+
+/// Compares all inputs, and gives the cases that never occurred.
+fn compare_all(comparison: &mut Comparison) -> Result<Vec<Case>, String> {
+    comparison.compare(EXAMPLE.as_bytes())?;
+    for input in bench_edges::inputs() {
+        comparison.compare(&input)?;
+    }
+    let mut random = Random(1);
+    for _ in 0..GARBAGE {
+        comparison.compare(&bench_garbage::any(&mut random))?;
+    }
+    for [m, k, points, length] in LARGER {
+        let history = History::of(&mut random, m, k, points, length);
+        comparison.compare(history.to_string().as_bytes())?;
+    }
+    comparison.compare(bench_workload::input(50_000).as_bytes())?;
+    compare_histories(comparison, &mut random)
+}
+
+fn run() -> Result<(), String> {
+    if reference(EXAMPLE.as_bytes()) != EXAMPLE_PRINTED.as_bytes() {
+        return Err("the reference does not print document 01's example".to_string());
+    }
+    let program = std::env::args().nth(1).ok_or("no program is given")?;
+    if !Path::new(&program).is_file() {
+        return Err(format!("there is no program {program}"));
+    }
+    let mut comparison = Comparison {
+        program,
+        inputs: 0,
+        differences: 0,
+    };
+    let missing = compare_all(&mut comparison)?;
+    println!(
+        "bench_compare: {} inputs compared, {} differences",
+        comparison.inputs, comparison.differences
+    );
+    match (comparison.differences, missing.as_slice()) {
+        (0, []) => Ok(()),
+        (0, missing) => Err(format!("never occurred: {missing:?}")),
+        _ => Err("the outputs differ".to_string()),
+    }
+}
+
+fn main() -> ExitCode {
+    match run() {
+        Ok(()) => ExitCode::SUCCESS,
+        Err(reason) => {
+            eprintln!("bench_compare: {reason}");
+            ExitCode::FAILURE
+        }
+    }
+}

@@ -1,0 +1,86 @@
+//! The bench of document 01 over the direct table: commands in, their answers out.
+
+use crate::bench_line::{read_command, read_sizes, Command};
+use crate::direct_table::Table;
+use std::io::{BufRead, Result, Write};
+
+/// Runs the input to its end.
+pub fn run(mut input: impl BufRead, mut output: impl Write) -> Result<()> {
+    let mut line = Vec::new();
+    let mut printed = Vec::new();
+    // A missing first line is taken as an empty one, which cannot be read either.
+    next_line(&mut input, &mut line)?;
+    let Some(mut table) = read_sizes(&line).and_then(|(m, k)| Table::new(m, k)) else {
+        output.write_all(b"panel ! 1\n")?;
+        return output.flush();
+    };
+    writeln!(output, "panel {} {}", table.m, table.k)?;
+    let mut number: u64 = 1;
+    while next_line(&mut input, &mut line)? {
+        number += 1;
+        match read_command(&line) {
+            Some(command) => {
+                printed.clear();
+                answer(&mut table, command, &mut printed);
+                output.write_all(&printed)?;
+            }
+            None => writeln!(output, "? {number}")?,
+        }
+    }
+    writeln!(output, "reach {} points {}", table.reach, table.points())?;
+    output.flush()
+}
+
+/// The next line without its end, in place of `line`; false at the end of the input.
+fn next_line(input: &mut impl BufRead, line: &mut Vec<u8>) -> Result<bool> {
+    line.clear();
+    let length = input.read_until(b'\n', line)?;
+    if line.last() == Some(&b'\n') {
+        line.pop();
+    }
+    Ok(length > 0)
+}
+
+/// Carries the command out and adds its line.
+fn answer(table: &mut Table, command: Command, printed: &mut Vec<u8>) {
+    let (letter, answer) = match command {
+        Command::Put { point, value } => {
+            let place = table.put(point, value);
+            (b'P', place.map(|place| (place.slot, Some(place.index))))
+        }
+        Command::Lookup { point } => (b'L', table.lookup(point).map(|value| (value, None))),
+        Command::Removal { point } => (b'R', table.remove(point).map(|reach| (reach, None))),
+    };
+    printed.push(letter);
+    push_number(printed, command.point());
+    match answer {
+        Ok((number, index)) => {
+            push_number(printed, number);
+            if let Some(index) = index {
+                push_number(printed, index);
+            }
+        }
+        Err(refusal) => {
+            printed.extend_from_slice(b" !");
+            push_number(printed, refusal as u32);
+        }
+    }
+    printed.push(b'\n');
+}
+
+/// A space and the number. The digits are made here because `write!` would take longer than the
+/// table's own work.
+fn push_number(printed: &mut Vec<u8>, mut number: u32) {
+    let mut digits = [0; 10];
+    let mut start = digits.len();
+    loop {
+        start -= 1;
+        digits[start] = b'0' + (number % 10) as u8;
+        number /= 10;
+        if number == 0 {
+            break;
+        }
+    }
+    printed.push(b' ');
+    printed.extend_from_slice(&digits[start..]);
+}

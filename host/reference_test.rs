@@ -1,0 +1,52 @@
+//! Tests of the reference itself: the writer's steps one by one, whole operations against the
+//! direct table and the plain list, and the steps of writer and readers in any order against the
+//! plain list. A failed test ends the program.
+
+mod bench_commands;
+mod bench_histories;
+mod direct_table;
+mod plain_list;
+mod reference_operations;
+mod reference_record;
+mod reference_writer;
+mod test_histories;
+mod test_orders;
+mod test_steps;
+
+// Commands are not read from text here.
+#[allow(dead_code)]
+mod bench_line;
+// Not every function is used.
+#[allow(dead_code)]
+mod random;
+// Walks and disabled points are tested elsewhere.
+#[allow(dead_code)]
+mod reference_table;
+
+use reference_table::Refusal;
+use reference_writer::WriterStep;
+
+/// What an operation hands back, with 0 for a second number that it lacks, or the refusal.
+type Answer = Result<(u32, u32), u32>;
+
+/// What a writer's operation ended with; none if it is underway.
+fn answer_of(step: Result<WriterStep, Refusal>) -> Option<Answer> {
+    match step {
+        Ok(WriterStep::Underway) => None,
+        Ok(WriterStep::Put { slot, index }) => Some(Ok((slot, index))),
+        Ok(WriterStep::Changed(number) | WriterStep::Removed(number)) => Some(Ok((number, 0))),
+        Ok(WriterStep::NoPerch) => Some(Err(6)),
+        Ok(WriterStep::Unknown) => Some(Err(7)),
+        Err(refusal) => Some(Err(refusal as u32)),
+    }
+}
+
+fn main() {
+    test_steps::run();
+    let commands = test_histories::run();
+    let calls = test_orders::run();
+    println!(
+        "reference_test: {commands} commands of histories and {calls} calls in any order, \
+         as the plain list has them"
+    );
+}

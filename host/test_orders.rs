@@ -1,0 +1,226 @@
+//! Steps of the writer and of readers in any order, against the plain list: document 01's claim
+//! about every list of calls, as far as lookups and the writer go, and the bounds on steps.
+
+use crate::plain_list::PlainList;
+use crate::random::Random;
+use crate::reference_record::{
+    Alteration, ChangeStage, PutStage, Reader, Record, RemovalStage, Search, Station, Writer,
+};
+use crate::reference_table::{fresh, start_lookup, step_reader, Refusal, Step};
+use crate::reference_writer::{masks, start_change, start_put, start_removal, step_writer};
+use crate::{answer_of, Answer};
+
+const PANELS: u32 = 1500;
+const CALLS: u32 = 400;
+const READERS: u32 = 3;
+
+/// Points and one that is refused, so few that the same one is often looked up and altered.
+const LAST_POINT: u32 = 7;
+
+/// A reader's lookup.
+#[derive(Clone, Default)]
+struct Lookup {
+    point: u32,
+    steps: u32,
+    /// What the plain list gave after each call since the first step.
+    moments: Vec<Option<u32>>,
+}
+
+struct World {
+    record: Record,
+    slots: Vec<u64>,
+    list: PlainList,
+    lookups: Vec<Lookup>,
+    writer_steps: u32,
+    /// What the plain list answered when it was fed the writer's operation.
+    fed: Option<Answer>,
+}
+
+/// The number of calls made.
+pub fn run() -> u32 {
+    let mut random = Random(3);
+    for _ in 0..PANELS {
+        let mut world = World::new(random.within(1, 6), random.within(1, 5));
+        for _ in 0..CALLS {
+            world.call(&mut random);
+            world.check();
+        }
+    }
+    PANELS * CALLS
+}
+
+impl World {
+    fn new(m: u32, k: u32) -> Self {
+        let mut slots = vec![0; m as usize];
+        let (_, record) = fresh(&mut slots, m, k);
+        World {
+            record,
+            slots,
+            list: PlainList::new(m, k),
+            lookups: vec![Lookup::default(); READERS as usize],
+            writer_steps: 0,
+            fed: None,
+        }
+    }
+
+    /// One call, which may be refused.
+    fn call(&mut self, random: &mut Random) {
+        let reader = random.within(0, READERS - 1);
+        match random.within(0, 9) {
+            0 => self.start_lookup(reader, random.within(0, LAST_POINT)),
+            1..=4 => self.step_reader(reader),
+            5 => self.start_writer(random),
+            _ => self.step_writer(),
+        }
+    }
+
+    /// What holds after each call.
+    fn check(&mut self) {
+        assert!(self.record.in_range());
+        assert_eq!(self.slots, self.list.slots());
+        for (work, lookup) in self.record.readers.iter().zip(&mut self.lookups) {
+            if *work != Reader::Idle && lookup.steps > 0 {
+                lookup.moments.push(self.list.lookup(lookup.point));
+            }
+        }
+    }
+
+    fn start_lookup(&mut self, reader: u32, point: u32) {
+        if start_lookup(&mut self.record, &self.slots, reader, point).is_ok() {
+            self.lookups[reader as usize] = Lookup {
+                point,
+                ..Lookup::default()
+            };
+        }
+    }
+
+    fn step_reader(&mut self, reader: u32) {
+        let lookup = &mut self.lookups[reader as usize];
+        lookup.steps += 1;
+        let answer = match step_reader(&mut self.record, &self.slots, reader) {
+            Ok(Step::Underway) | Err(Refusal::Idle) => return,
+            Ok(Step::Found(value)) => Some(value),
+            Ok(Step::Unknown) => None,
+            other => panic!("a lookup's step gave {other:?}"),
+        };
+        let now = self.list.lookup(lookup.point);
+        assert!(answer == now || lookup.moments.contains(&answer));
+        assert!(lookup.steps <= self.record.k + 1);
+    }
+
+    fn start_writer(&mut self, random: &mut Random) {
+        let point = random.within(0, LAST_POINT);
+        let value = random.within(0, u32::MAX);
+        let (record, slots) = (&mut self.record, &self.slots);
+        // A refused start has no answer to be checked.
+        let _ = match random.within(0, 4) {
+            0 | 1 => start_put(record, slots, point, value),
+            2 => start_change(record, slots, point, value, value.rotate_left(9)),
+            3 => start_removal(record, slots, point),
+            _ => start_command(record, point.max(1), random),
+        };
+    }
+
+    fn step_writer(&mut self) {
+        let before = self.record;
+        let answer = answer_of(step_writer(&mut self.record, &mut self.slots));
+        if before.writer == Writer::Idle {
+            assert_eq!(answer, Some(Err(5)));
+            return;
+        }
+        self.writer_steps += 1;
+        if stores_slot(&before) || (answer.is_some() && self.fed.is_none()) {
+            assert_eq!(self.fed, None);
+            self.fed = Some(feed(&mut self.list, before.writer));
+        }
+        if let Some(answer) = answer {
+            assert_eq!(Some(answer), self.fed.take());
+            assert!(self.writer_steps <= bound(&before));
+            self.writer_steps = 0;
+            check_command(before.writer, answer, &self.record);
+        }
+    }
+}
+
+/// The station's next command, put into the record without a frame.
+fn start_command(record: &mut Record, point: u32, random: &mut Random) -> Result<(), Refusal> {
+    if record.writer != Writer::Idle {
+        return Err(Refusal::Engaged);
+    }
+    let station = random.within(1, 32);
+    record.writer = Writer::Changing {
+        point,
+        alteration: Alteration::Commanded {
+            station,
+            number: record.stations[station as usize - 1].number + 1,
+            action: random.within(0, 2),
+        },
+        stage: ChangeStage::Searching(Search::Unread),
+    };
+    Ok(())
+}
+
+/// Whether the writer's next step stores a slot.
+fn stores_slot(record: &Record) -> bool {
+    match record.writer {
+        Writer::Idle => false,
+        Writer::Putting { stage, .. } => match stage {
+            PutStage::Searching(_) | PutStage::Scanning(_) => false,
+            PutStage::Found(_) => true,
+            PutStage::Chosen(index) => index <= record.reach,
+        },
+        Writer::Changing { stage, .. } => matches!(stage, ChangeStage::Found(_)),
+        Writer::Removing { stage, .. } => matches!(stage, RemovalStage::Found(_)),
+    }
+}
+
+/// The most steps that the writer's operation may take.
+fn bound(record: &Record) -> u32 {
+    match record.writer {
+        Writer::Idle => 0,
+        Writer::Putting { .. } => 2 * record.k + 2,
+        Writer::Changing { .. } => record.k + 2,
+        Writer::Removing { .. } => record.k + 3,
+    }
+}
+
+fn feed(list: &mut PlainList, work: Writer) -> Answer {
+    match work {
+        Writer::Idle => panic!("nothing to feed"),
+        Writer::Putting { point, value, .. } => list.put(point, value).ok_or(6),
+        Writer::Changing {
+            point, alteration, ..
+        } => {
+            let (keep, flip) = masks(alteration);
+            let value = list.change(point, keep, flip);
+            value.map(|value| (value, 0)).ok_or(7)
+        }
+        Writer::Removing { point, .. } => {
+            let reach = list.remove(point);
+            reach.map(|reach| (reach, 0)).ok_or(7)
+        }
+    }
+}
+
+/// A command that has ended is its station's last, with its answer.
+fn check_command(work: Writer, answer: Answer, after: &Record) {
+    if let Writer::Changing {
+        point,
+        alteration:
+            Alteration::Commanded {
+                station,
+                number,
+                action,
+            },
+        ..
+    } = work
+    {
+        let expected = Station {
+            number,
+            point,
+            action,
+            answer: answer.ok().map(|(value, _)| value),
+        };
+        assert_eq!(after.stations[station as usize - 1], expected);
+    }
+}

@@ -1,5 +1,5 @@
--- Laws of the record that callers cite in place of the definitions' text: what the range test says, field by field and back; what replacing one reader's
--- work does to the ranges and to the others; that a fresh record is in range and the record of zeros never is.
+-- Laws of the record that callers cite in place of the definitions' text: what the range test says, field by field and back; what replacing a
+-- part does to the ranges, and one reader's work to the others; that a fresh record is in range and the record of zeros never is.
 -- Assumes nothing.
 use Prim.Native.Nat.{ℕ, _≤_, _<_}
 use mathlib.Core.Path.{_≡_, refl, ap}
@@ -14,9 +14,12 @@ use Rattle.refusal.proofs.Laws.{both-left, both-right, both-true, within-low, w
 use Rattle.record.specs.declared.Record.{Record}
 use Rattle.record.specs.declared.Reader.{Reader}
 use Rattle.record.specs.declared.ReaderWork.{ReaderWork}
-use Rattle.record.specs.Parts.{idleReader, freshRecord, workOf, withWork}
+use Rattle.record.specs.declared.WriterWork.{WriterWork}
+use Rattle.record.specs.declared.Station.{Station}
+use Rattle.record.specs.Parts.{idleReader, freshRecord, workOf, withWork, withWriter, withReach, countOf, withCount, withStation}
 use Rattle.record.specs.Ranges.{all, sizesInRange, countsInRange, workInRange, readerInRange, readersInRange, writerInRange, stationInRange, stationsInRange, inRange}
 use Rattle.record.proofs.All.{all-at, all-set, all-take, all-replicate}
+use Rattle.record.proofs.Numbered.{all-replaced, all-first-replaced, all-first-at}
 
 -- the numbers of a record in range
 pub record Sizes (m k lent : ℕ) : Type 0 where
@@ -77,14 +80,92 @@ module _ (lent : ℕ) (panel : Record) where
   unfolding readersInRange readerInRange withWork
   readers-replaced reader work h e = all-set (readerInRange (panel .m) (panel .k)) (panel .readers) reader (record { work = work }) h e
 
-  pub with-work-in-range : (reader : ℕ) (work : ReaderWork) → inRange lent panel ≡ true → workInRange (panel .m) (panel .k) work ≡ true → inRange lent (withWork panel reader work) ≡ true
-  unfolding inRange withWork
-  with-work-in-range reader work h e =
-      let f = fields h in
+  -- the range test from its parts
+  pub in-range : Fields lent panel → inRange lent panel ≡ true
+  unfolding inRange
+  in-range f =
       both-true _ _ (f .sizes-fit)
       (both-true _ _ (le-leb (panel .reach) (panel .k) (f .reach-fits))
-      (both-true _ _ (f .counts-fit)
-      (both-true _ _ (f .writer-fits) (both-true _ _ (readers-replaced reader work (f .readers-fit) e) (f .stations-fit)))))
+      (both-true _ _ (f .counts-fit) (both-true _ _ (f .writer-fits) (both-true _ _ (f .readers-fit) (f .stations-fit)))))
+
+-- a record in range stays so if what replaces a part of it is in range
+module _ (lent : ℕ) (panel : Record) (h : inRange lent panel ≡ true) where
+  pub with-work-in-range : (reader : ℕ) (work : ReaderWork) → workInRange (panel .m) (panel .k) work ≡ true → inRange lent (withWork panel reader work) ≡ true
+  unfolding withWork
+  with-work-in-range reader work e =
+      let f = fields lent panel h in
+      in-range lent (withWork panel reader work)
+      (record {
+        sizes-fit = f .sizes-fit;
+        reach-fits = f .reach-fits;
+        counts-fit = f .counts-fit;
+        writer-fits = f .writer-fits;
+        readers-fit = readers-replaced lent panel reader work (f .readers-fit) e;
+        stations-fit = f .stations-fit;
+      })
+
+  pub with-writer-in-range : (work : WriterWork) → writerInRange (panel .k) work ≡ true → inRange lent (withWriter panel work) ≡ true
+  unfolding withWriter
+  with-writer-in-range work e =
+      let f = fields lent panel h in
+      in-range lent (withWriter panel work)
+      (record {
+        sizes-fit = f .sizes-fit;
+        reach-fits = f .reach-fits;
+        counts-fit = f .counts-fit;
+        writer-fits = e;
+        readers-fit = f .readers-fit;
+        stations-fit = f .stations-fit;
+      })
+
+  pub with-reach-in-range : (reach : ℕ) → reach ≤ panel .k → inRange lent (withReach panel reach) ≡ true
+  unfolding withReach
+  with-reach-in-range reach e =
+      let f = fields lent panel h in
+      in-range lent (withReach panel reach)
+      (record {
+        sizes-fit = f .sizes-fit;
+        reach-fits = e;
+        counts-fit = f .counts-fit;
+        writer-fits = f .writer-fits;
+        readers-fit = f .readers-fit;
+        stations-fit = f .stations-fit;
+      })
+
+  pub with-count-in-range : (index count : ℕ) → count ≤ panel .m → inRange lent (withCount panel index count) ≡ true
+  unfolding withCount countsInRange
+  with-count-in-range index count e =
+      let f = fields lent panel h in
+      in-range lent (withCount panel index count)
+      (record {
+        sizes-fit = f .sizes-fit;
+        reach-fits = f .reach-fits;
+        counts-fit = all-first-replaced (λ (c : ℕ). leb c (panel .m)) (panel .k) (panel .counts) index count (f .counts-fit) (le-leb count (panel .m) e);
+        writer-fits = f .writer-fits;
+        readers-fit = f .readers-fit;
+        stations-fit = f .stations-fit;
+      })
+
+  pub with-station-in-range : (station : ℕ) (last : Station) → stationInRange last ≡ true → inRange lent (withStation panel station last) ≡ true
+  unfolding withStation stationsInRange
+  with-station-in-range station last e =
+      let f = fields lent panel h in
+      in-range lent (withStation panel station last)
+      (record {
+        sizes-fit = f .sizes-fit;
+        reach-fits = f .reach-fits;
+        counts-fit = f .counts-fit;
+        writer-fits = f .writer-fits;
+        readers-fit = f .readers-fit;
+        stations-fit = all-replaced stationInRange (panel .stations) station last (f .stations-fit) e;
+      })
+
+  -- "how many stored points use it (0 to m)", of an index that is judged
+  pub count-in-range : (index : ℕ) → index ≤ panel .k → countOf panel index ≤ panel .m
+  unfolding countOf countsInRange
+  count-in-range index e =
+      leb-true (countOf panel index) (panel .m)
+      (all-first-at (λ (c : ℕ). leb c (panel .m)) (panel .k) (panel .counts) index 0 (fields lent panel h .counts-fit) (leb·zero (panel .m)) e)
 
 pub work-replaced : (panel : Record) (reader : ℕ) (work : ReaderWork) → reader < length (panel .readers) → workOf (withWork panel reader work) reader ≡ work
 unfolding workOf withWork

@@ -123,13 +123,13 @@ module _ (panel : Record) (slots : List ℕ) (reader : ℕ) (fits : inRange (len
   step-in-range =
       unless kept (stepRefusal (length slots) panel reader) panel slots _ (λ answer. fits)
       (λ e.
-      with-work-in-range (length slots) panel reader _ fits
+      with-work-in-range (length slots) panel fits reader _
       (advances (panel .m) (panel .k) (panel .reach) (workOf panel reader) _ (fields (length slots) panel fits .reach-fits)
       (work-in-range (length slots) panel reader fits) .in-range))
 
   start-in-range : (n : ℕ) (work : ReaderWork) → (n ≡ 0 → workInRange (panel .m) (panel .k) work ≡ true) → inRange (length slots) (startReader n panel slots reader work .panel) ≡ true
   unfolding startReader kept
-  start-in-range n work h = unless kept n panel slots _ (λ answer. fits) (λ e. with-work-in-range (length slots) panel reader work fits (h e))
+  start-in-range n work h = unless kept n panel slots _ (λ answer. fits) (λ e. with-work-in-range (length slots) panel fits reader work (h e))
 
   pub lookup-start-in-range : (point : ℕ) → inRange (length slots) (startLookup panel slots reader point .panel) ≡ true
   unfolding startLookup lookupRefusal workInRange lookupInRange searchInRange

@@ -61,11 +61,11 @@ pub record OneStep (k left : ℕ) (after : Searched) : Type 0 where
   pub fits : searchedInRange k after ≡ true
   pub less : searchedLeft k after + 1 ≤ left
 
-first-step : (k reach : ℕ) → reach ≤ k → OneStep k (k + 1) (firstProbe reach)
+pub first-step : (k reach : ℕ) → reach ≤ k → OneStep k (reach + 1) (firstProbe reach)
 unfolding firstProbe searchedInRange answerInRange searchedLeft searchLeft
 first-step k reach h = go (eqb reach 0) refl
   where
-    go : (b : Bool) → eqb reach 0 ≡ b → OneStep k (k + 1) (cond b (Answered Unknown) (Going (Probing (record { reach = reach; next = 1 }))))
+    go : (b : Bool) → eqb reach 0 ≡ b → OneStep k (reach + 1) (cond b (Answered Unknown) (Going (Probing (record { reach = reach; next = 1 }))))
     go true e = record { fits = refl; less = omega arith }
     go false e = let some = eqb-false reach 0 e in record { fits = probing k reach 1 h (omega arith) (omega arith); less = omega arith }
 
@@ -79,7 +79,7 @@ next-step k probe h = go (ltb (probe .next) (probe .reach)) refl
         record { fits = probing k (probe .reach) (probe .next + 1) (reach-high k probe h) (omega arith) (omega arith); less = omega arith }
     go false e = record { fits = refl; less = omega arith }
 
-probe-step : (k point : ℕ) (probe : Probe) (word : ℕ) → searchInRange k (Probing probe) ≡ true → OneStep k (probe .reach - probe .next + 1) (probeAdvance point probe word)
+pub probe-step : (k point : ℕ) (probe : Probe) (word : ℕ) → searchInRange k (Probing probe) ≡ true → OneStep k (probe .reach - probe .next + 1) (probeAdvance point probe word)
 unfolding probeAdvance searchedInRange answerInRange searchedLeft
 probe-step k point probe word h = go (eqb (pointOf word) point)
   where
@@ -93,5 +93,5 @@ probe-step k point probe word h = go (eqb (pointOf word) point)
 
 pub search-step : (k reach point : ℕ) (search : Search) (word : ℕ) → reach ≤ k → searchInRange k search ≡ true → OneStep k (searchLeft k search) (searchAdvance reach point search word)
 unfolding searchAdvance searchLeft
-search-step k reach point Unread word a h = first-step k reach a
+search-step k reach point Unread word a h = let first = first-step k reach a in record { fits = first .fits; less = omega (arith, first .less) }
 search-step k reach point (Probing probe) word a h = probe-step k point probe word h

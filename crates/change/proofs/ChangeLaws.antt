@@ -1,0 +1,75 @@
+-- Laws of a change's step: it goes on in range or ends, and takes one of the steps that are left; so a change takes at most k + 2.
+-- Assumes nothing.
+use Prim.Native.Nat.{ℕ, _+_, _≤_}
+use mathlib.Core.Path.{_≡_, refl}
+use mathlib.Core.Bool.{Bool, true, false}
+use native.Mathlib.Omega.{arith}
+use borrow.Author.Tests.{le-leb}
+use lib.Dec.{leb, eqb}
+use Rattle.refusal.specs.Judging.{both, either, within}
+use Rattle.refusal.proofs.Laws.{both-left, both-right, both-true, within-high}
+use Rattle.record.specs.declared.Alteration.{Alteration}
+use Rattle.record.specs.declared.Alteration.the-variants.{Given, Commanded}
+use Rattle.record.specs.declared.Change.{Change}
+use Rattle.record.specs.declared.ChangeStage.{ChangeStage}
+use Rattle.record.specs.declared.ChangeStage.the-variants.{Searching, Found as ChangeStage·Found}
+use Rattle.record.specs.declared.Command.{Command}
+use Rattle.record.specs.declared.CommandAnswer.{CommandAnswer}
+use Rattle.record.specs.declared.WriterWork.the-variants.{Changing}
+use Rattle.record.specs.Ranges.{validPoint, alterationInRange, commandInRange, stationInRange, changeStageInRange, changeInRange, writerInRange}
+use Rattle.table.specs.declared.search.Searched.{Searched}
+use Rattle.table.specs.declared.search.Searched.the-variants.{Going, Answered}
+use Rattle.table.specs.declared.search.SearchAnswer.the-variants.{Found as SearchAnswer·Found, Unknown}
+use Rattle.table.proofs.SearchLaws.{searchLeft, searchedLeft, searchedInRange, answerInRange, OneStep, search-step}
+use Rattle.moves.specs.Moves.{goesOn, ends}
+use Rattle.moves.proofs.MoveLaws.{updateInRange, reachAfter, changeLeft, writerLeft, OneMove}
+use Rattle.change.specs.Change.{alterationEnds, commandEnds, changeAt, changeAnswered, changeSearched, changeStores, changeStageAdvance, changeAdvance}
+
+either-right : (a b : Bool) → b ≡ true → either a b ≡ true
+unfolding either
+either-right true b e = refl
+either-right false b e = e
+
+-- "number, point, action and answer are stored": in range, as the command was
+stored-fits : (k point : ℕ) (alteration : Alteration) (answer : CommandAnswer) → validPoint point ≡ true → alterationInRange alteration ≡ true → updateInRange k (alterationEnds alteration point answer) ≡ true
+unfolding updateInRange alterationEnds alterationInRange commandInRange stationInRange
+stored-fits k point (Given masks) answer valid h = refl
+stored-fits k point (Commanded command) answer valid h =
+    let rest = both-right (within 1 (command .station) 32) (both (within 1 (command .number) 16777215) (leb (command .action) 2)) h in
+    let number = both-left (within 1 (command .number) 16777215) (leb (command .action) 2) rest in
+    let action = both-right (within 1 (command .number) 16777215) (leb (command .action) 2) rest in
+    both-true (leb (command .number) 16777215) (either (eqb (command .number) 0) (both (validPoint point) (leb (command .action) 2)))
+    (le-leb (command .number) 16777215 (within-high 1 (command .number) 16777215 number))
+    (either-right (eqb (command .number) 0) (both (validPoint point) (leb (command .action) 2)) (both-true (validPoint point) (leb (command .action) 2) valid action))
+
+module _ (k reach : ℕ) (change : Change) (valid : validPoint (change .point) ≡ true) (alters : alterationInRange (change .alteration) ≡ true) where
+  -- the change goes on at a stage in range with as many steps left
+  at-stage : (left : ℕ) (stage : ChangeStage) → changeStageInRange k stage ≡ true → changeLeft k stage + 1 ≤ left → OneMove k reach left (changeAt change stage)
+  unfolding changeAt goesOn writerInRange changeInRange updateInRange reachAfter writerLeft
+  at-stage left stage h less =
+      record {
+        work-fits = both-true (validPoint (change .point)) (both (alterationInRange (change .alteration)) (changeStageInRange k stage)) valid (both-true (alterationInRange (change .alteration)) (changeStageInRange k stage) alters h);
+        update-fits = refl;
+        less = less;
+      }
+
+  searched : (left : ℕ) (after : Searched) → OneStep k left after → OneMove k reach (left + 1) (changeSearched change after)
+  unfolding changeSearched changeAnswered commandEnds ends changeStageInRange changeLeft searchedInRange searchedLeft answerInRange writerInRange writerLeft
+  searched left (Going search) s = at-stage _ (Searching search) (s .fits) (omega (arith, s .less))
+  searched left (Answered (SearchAnswer·Found place)) s = at-stage _ (ChangeStage·Found place) (s .fits) (omega (arith, s .less))
+  searched left (Answered Unknown) s =
+      record { work-fits = refl; update-fits = stored-fits k (change .point) (change .alteration) _ valid alters; less = omega arith }
+
+  at-any-stage : (word : ℕ) (stage : ChangeStage) → reach ≤ k → changeStageInRange k stage ≡ true → OneMove k reach (changeLeft k stage) (changeStageAdvance reach change stage word)
+  unfolding changeStageAdvance changeStageInRange changeLeft changeStores commandEnds ends writerInRange writerLeft
+  at-any-stage word (Searching search) r h = searched _ _ (search-step k reach (change .point) search word r h)
+  at-any-stage word (ChangeStage·Found place) r h =
+      record { work-fits = refl; update-fits = stored-fits k (change .point) (change .alteration) _ valid alters; less = omega arith }
+
+pub change-moves : (k reach : ℕ) (change : Change) (word : ℕ) → reach ≤ k → changeInRange k change ≡ true → OneMove k reach (writerLeft k reach (Changing change)) (changeAdvance reach change word)
+unfolding changeAdvance changeInRange writerLeft
+change-moves k reach change word r h =
+    let valid = both-left (validPoint (change .point)) (both (alterationInRange (change .alteration)) (changeStageInRange k (change .stage))) h in
+    let rest = both-right (validPoint (change .point)) (both (alterationInRange (change .alteration)) (changeStageInRange k (change .stage))) h in
+    at-any-stage k reach change valid (both-left (alterationInRange (change .alteration)) (changeStageInRange k (change .stage)) rest) word (change .stage) r
+    (both-right (alterationInRange (change .alteration)) (changeStageInRange k (change .stage)) rest)

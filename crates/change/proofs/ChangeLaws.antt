@@ -1,4 +1,5 @@
--- Laws of a change's step: it goes on in range or ends, and takes one of the steps that are left; so a change takes at most k + 2.
+-- Laws of a change's step: it goes on in range or ends, and takes one of the steps that are left; so a change takes at most k + 2;
+-- it leaves the reach.
 -- Assumes nothing.
 use Prim.Native.Nat.{ℕ, _+_, _≤_}
 use mathlib.Core.Path.{_≡_, refl}
@@ -13,17 +14,20 @@ use Rattle.record.specs.declared.Alteration.the-variants.{Given, Commanded}
 use Rattle.record.specs.declared.Change.{Change}
 use Rattle.record.specs.declared.ChangeStage.{ChangeStage}
 use Rattle.record.specs.declared.ChangeStage.the-variants.{Searching, Found as ChangeStage·Found}
-use Rattle.record.specs.declared.Command.{Command}
 use Rattle.record.specs.declared.CommandAnswer.{CommandAnswer}
+use Rattle.record.specs.declared.CommandAnswer.the-variants.{Value, Unknown as CommandAnswer·Unknown}
 use Rattle.record.specs.declared.WriterWork.the-variants.{Changing}
 use Rattle.record.specs.Ranges.{validPoint, alterationInRange, commandInRange, stationInRange, changeStageInRange, changeInRange, writerInRange}
 use Rattle.table.specs.declared.search.Searched.{Searched}
 use Rattle.table.specs.declared.search.Searched.the-variants.{Going, Answered}
 use Rattle.table.specs.declared.search.SearchAnswer.the-variants.{Found as SearchAnswer·Found, Unknown}
-use Rattle.table.proofs.SearchLaws.{searchLeft, searchedLeft, searchedInRange, answerInRange, OneStep, search-step}
-use Rattle.moves.specs.Moves.{goesOn, ends}
-use Rattle.moves.proofs.MoveLaws.{updateInRange, reachAfter, changeLeft, writerLeft, OneMove}
-use Rattle.change.specs.Change.{alterationEnds, commandEnds, changeAt, changeAnswered, changeSearched, changeStores, changeStageAdvance, changeAdvance}
+use Rattle.table.specs.Answers.{isUnderway}
+use Rattle.table.specs.Search.{searchAdvance}
+use Rattle.table.proofs.SearchLaws.{searchedLeft, searchedInRange, answerInRange, OneStep, search-step}
+use Rattle.moves.specs.Memory.{storeWord}
+use Rattle.moves.specs.Moves.{isIdle, goesOn, ends}
+use Rattle.moves.proofs.MoveLaws.{updateInRange, reachAfter, reachStored, changeLeft, writerLeft, OneMove}
+use Rattle.change.specs.Change.{newValue, changeStageAccess, changeAccess, alterationEnds, commandEnds, changeAt, changeAnswered, changeSearched, changeStores, changeStageAdvance, changeAdvance}
 
 either-right : (a b : Bool) → b ≡ true → either a b ≡ true
 unfolding either
@@ -45,31 +49,54 @@ stored-fits k point (Commanded command) answer valid h =
 module _ (k reach : ℕ) (change : Change) (valid : validPoint (change .point) ≡ true) (alters : alterationInRange (change .alteration) ≡ true) where
   -- the change goes on at a stage in range with as many steps left
   at-stage : (left : ℕ) (stage : ChangeStage) → changeStageInRange k stage ≡ true → changeLeft k stage + 1 ≤ left → OneMove k reach left (changeAt change stage)
-  unfolding changeAt goesOn writerInRange changeInRange updateInRange reachAfter writerLeft
+  unfolding changeAt goesOn writerInRange changeInRange updateInRange reachAfter writerLeft isUnderway isIdle
   at-stage left stage h less =
       record {
         work-fits = both-true (validPoint (change .point)) (both (alterationInRange (change .alteration)) (changeStageInRange k stage)) valid (both-true (alterationInRange (change .alteration)) (changeStageInRange k stage) alters h);
         update-fits = refl;
+        ended = refl;
         less = less;
       }
 
   searched : (left : ℕ) (after : Searched) → OneStep k left after → OneMove k reach (left + 1) (changeSearched change after)
-  unfolding changeSearched changeAnswered commandEnds ends changeStageInRange changeLeft searchedInRange searchedLeft answerInRange writerInRange writerLeft
+  unfolding changeSearched changeAnswered commandEnds ends changeStageInRange changeLeft searchedInRange searchedLeft answerInRange writerInRange writerLeft isUnderway isIdle
   searched left (Going search) s = at-stage _ (Searching search) (s .fits) (omega (arith, s .less))
   searched left (Answered (SearchAnswer·Found place)) s = at-stage _ (ChangeStage·Found place) (s .fits) (omega (arith, s .less))
   searched left (Answered Unknown) s =
-      record { work-fits = refl; update-fits = stored-fits k (change .point) (change .alteration) _ valid alters; less = omega arith }
+      record { work-fits = refl; update-fits = stored-fits k (change .point) (change .alteration) _ valid alters; ended = refl; less = omega arith }
 
   at-any-stage : (word : ℕ) (stage : ChangeStage) → reach ≤ k → changeStageInRange k stage ≡ true → OneMove k reach (changeLeft k stage) (changeStageAdvance reach change stage word)
-  unfolding changeStageAdvance changeStageInRange changeLeft changeStores commandEnds ends writerInRange writerLeft
+  unfolding changeStageAdvance changeStageInRange changeLeft changeStores commandEnds ends writerInRange writerLeft isUnderway isIdle
   at-any-stage word (Searching search) r h = searched _ _ (search-step k reach (change .point) search word r h)
   at-any-stage word (ChangeStage·Found place) r h =
-      record { work-fits = refl; update-fits = stored-fits k (change .point) (change .alteration) _ valid alters; less = omega arith }
+      record { work-fits = refl; update-fits = stored-fits k (change .point) (change .alteration) _ valid alters; ended = refl; less = omega arith }
 
 pub change-moves : (k reach : ℕ) (change : Change) (word : ℕ) → reach ≤ k → changeInRange k change ≡ true → OneMove k reach (writerLeft k reach (Changing change)) (changeAdvance reach change word)
-unfolding changeAdvance changeInRange writerLeft
+unfolding changeAdvance changeInRange writerLeft isUnderway isIdle
 change-moves k reach change word r h =
     let valid = both-left (validPoint (change .point)) (both (alterationInRange (change .alteration)) (changeStageInRange k (change .stage))) h in
     let rest = both-right (validPoint (change .point)) (both (alterationInRange (change .alteration)) (changeStageInRange k (change .stage))) h in
     at-any-stage k reach change valid (both-left (alterationInRange (change .alteration)) (changeStageInRange k (change .stage)) rest) word (change .stage) r
     (both-right (alterationInRange (change .alteration)) (changeStageInRange k (change .stage)) rest)
+
+-- no step of a change stores the reach
+module _ (m reach : ℕ) (change : Change) (word : ℕ) where
+  ended-reach : (alteration : Alteration) (answer : CommandAnswer) → reachAfter reach (alterationEnds alteration (change .point) answer) ≡ reach
+  unfolding alterationEnds reachAfter
+  ended-reach (Given masks) answer = refl
+  ended-reach (Commanded command) answer = refl
+
+  searched-reach : (after : Searched) → reachAfter reach (changeSearched change after .update) ≡ reach
+  unfolding changeSearched changeAnswered changeAt goesOn ends commandEnds reachAfter
+  searched-reach (Going search) = refl
+  searched-reach (Answered (SearchAnswer·Found place)) = refl
+  searched-reach (Answered Unknown) = ended-reach (change .alteration) CommandAnswer·Unknown
+
+  stage-reach : (stage : ChangeStage) → reachAfter reach (changeStageAdvance reach change stage word .update) ≡ reachStored reach (changeStageAccess m change stage)
+  unfolding changeStageAdvance changeStageAccess changeStores commandEnds storeWord ends reachStored
+  stage-reach (Searching search) = searched-reach (searchAdvance reach (change .point) search word)
+  stage-reach (ChangeStage·Found place) = ended-reach (change .alteration) (Value (newValue (change .alteration) (place .value)))
+
+  pub change-reach : reachAfter reach (changeAdvance reach change word .update) ≡ reachStored reach (changeAccess m change)
+  unfolding changeAdvance changeAccess
+  change-reach = stage-reach (change .stage)

@@ -3,7 +3,7 @@
 -- Assumes nothing.
 use Prim.Native.Nat.{ℕ, _+_, _*_, _-_, _≤_, min}
 use mathlib.Core.Path.{_≡_, refl}
-use mathlib.Core.Bool.{Bool, true, false, cond}
+use mathlib.Core.Bool.{Bool, true, false, cond, not}
 use native.Mathlib.Omega.{arith}
 use borrow.Author.Tests.{leb-true, ltb-true, ltb-false}
 use lib.Dec.{ltb, leb}
@@ -23,11 +23,14 @@ use Rattle.record.specs.declared.WriterWork.the-variants.{Idle, Putting, Changi
 use Rattle.record.specs.Parts.{withReach, withCount, withStation, countOf}
 use Rattle.record.specs.Ranges.{stationInRange, writerInRange, inRange}
 use Rattle.record.proofs.Laws.{with-reach-in-range, with-count-in-range, with-station-in-range, count-in-range}
+use Rattle.table.specs.Answers.{isUnderway}
 use Rattle.table.proofs.SearchLaws.{searchLeft}
+use Rattle.moves.specs.declared.memory.WriterAccess.{WriterAccess}
+use Rattle.moves.specs.declared.memory.WriterAccess.the-variants.{Read, StoreReach, StoreSlot}
 use Rattle.moves.specs.declared.update.Update.{Update}
 use Rattle.moves.specs.declared.update.Update.the-variants.{Nothing, Reach, Counted, Uncounted, Answered}
 use Rattle.moves.specs.Counts.{counted, uncounted}
-use Rattle.moves.specs.Moves.{WriterMove, updated}
+use Rattle.moves.specs.Moves.{WriterMove, isIdle, updated}
 
 -- what replaces a part of the record is in range
 unfoldable pub updateInRange : ℕ → Update → Bool
@@ -55,6 +58,12 @@ reachAfter reach (Reach new) = new
 reachAfter reach (Counted index) = reach
 reachAfter reach (Uncounted index) = reach
 reachAfter reach (Answered command) = reach
+
+-- the reach after an access
+unfoldable pub reachStored : ℕ → WriterAccess → ℕ
+reachStored reach (Read access) = reach
+reachStored reach (StoreReach new) = new
+reachStored reach (StoreSlot store) = reach
 
 -- what an update leaves alone, and the reach after it
 pub record Updated (panel : Record) (update : Update) : Type 0 where
@@ -135,4 +144,6 @@ writerLeft k reach (Removing removal) = removalLeft k (removal .stage)
 pub record OneMove (k reach left : ℕ) (move : WriterMove) : Type 0 where
   pub work-fits : writerInRange k (move .work) ≡ true
   pub update-fits : updateInRange k (move .update) ≡ true
+  -- "A step that ends an operation .. leaves that party idle", and only such a step does
+  pub ended : isUnderway (move .answer) ≡ not (isIdle (move .work))
   pub less : writerLeft k (reachAfter reach (move .update)) (move .work) + 1 ≤ left

@@ -1,14 +1,21 @@
 -- What a step of the writer comes to besides its access: the work after it, what changes in the record besides, and the answer.
-use Prim.Native.Nat.{ℕ}
+use mathlib.Core.Bool.{Bool, true, false}
 use Rattle.record.specs.declared.Record.{Record}
 use Rattle.record.specs.declared.WriterWork.{WriterWork}
-use Rattle.record.specs.declared.WriterWork.the-variants.{Idle}
+use Rattle.record.specs.declared.WriterWork.the-variants.{Idle, Putting, Changing, Removing}
 use Rattle.record.specs.Parts.{withReach, withStation}
 use Rattle.table.specs.Answers.{Answer, underway, paperWriter}
 use Rattle.moves.specs.declared.update.Moved.{Moved}
 use Rattle.moves.specs.declared.update.Update.{Update}
 use Rattle.moves.specs.declared.update.Update.the-variants.{Nothing, Reach, Counted, Uncounted, Answered}
 use Rattle.moves.specs.Counts.{counted, uncounted}
+
+-- no put, change or removal underway
+unfoldable pub isIdle : WriterWork → Bool
+isIdle Idle = true
+isIdle (Putting put) = false
+isIdle (Changing change) = false
+isIdle (Removing removal) = false
 
 -- the three
 pub record WriterMove : Type 0 where

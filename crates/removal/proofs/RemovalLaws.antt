@@ -1,4 +1,5 @@
--- Laws of a removal's step: it goes on in range or ends, and takes one of the steps that are left; so a removal takes at most k + 3.
+-- Laws of a removal's step: it goes on in range or ends, and takes one of the steps that are left; so a removal takes at most k + 3;
+-- it updates the reach in the step whose access stores it.
 -- Assumes nothing.
 use Prim.Native.Nat.{ℕ, _+_, _≤_}
 use mathlib.Core.Path.{_≡_, refl}
@@ -16,46 +17,74 @@ use Rattle.record.specs.Ranges.{validPoint, removalStageInRange, removalInRange
 use Rattle.table.specs.declared.search.Searched.{Searched}
 use Rattle.table.specs.declared.search.Searched.the-variants.{Going, Answered}
 use Rattle.table.specs.declared.search.SearchAnswer.the-variants.{Found as SearchAnswer·Found, Unknown}
-use Rattle.table.specs.Answers.{removed}
-use Rattle.table.proofs.SearchLaws.{searchLeft, searchedLeft, searchedInRange, answerInRange, OneStep, search-step}
+use Rattle.table.specs.Answers.{isUnderway, removed}
+use Rattle.table.specs.Search.{searchAdvance}
+use Rattle.table.proofs.SearchLaws.{searchedLeft, searchedInRange, answerInRange, OneStep, search-step}
+use Rattle.moves.specs.Memory.{storeWord}
 use Rattle.moves.specs.declared.update.Update.{Update}
 use Rattle.moves.specs.declared.update.Update.the-variants.{Nothing, Uncounted}
 use Rattle.moves.specs.Counts.{largestCounted}
-use Rattle.moves.specs.Moves.{ends}
+use Rattle.moves.specs.Moves.{isIdle, ends}
 use Rattle.moves.proofs.CountLaws.{largest-high}
-use Rattle.moves.proofs.MoveLaws.{updateInRange, reachAfter, removalLeft, writerLeft, OneMove}
-use Rattle.removal.specs.Removal.{removalAt, removalAnswered, removalSearched, isLast, removalEmpties, removalLowers, removalStageAdvance, removalAdvance}
+use Rattle.moves.proofs.MoveLaws.{updateInRange, reachAfter, reachStored, removalLeft, writerLeft, OneMove}
+use Rattle.removal.specs.Removal.{removalStageAccess, removalAccess, removalAt, removalAnswered, removalSearched, isLast, removalEmpties, removalLowers, removalStageAdvance, removalAdvance}
 
 module _ (panel : Record) (removal : Removal) (valid : validPoint (removal .point) ≡ true) where
   -- the removal goes on at a stage in range with as many steps left
   at-stage : (left : ℕ) (stage : RemovalStage) (update : Update) → removalStageInRange (panel .k) stage ≡ true → updateInRange (panel .k) update ≡ true → removalLeft (panel .k) stage + 1 ≤ left → OneMove (panel .k) (panel .reach) left (removalAt removal stage update)
-  unfolding removalAt writerInRange removalInRange writerLeft
+  unfolding removalAt writerInRange removalInRange writerLeft isUnderway isIdle
   at-stage left stage update h e less =
-      record { work-fits = both-true (validPoint (removal .point)) (removalStageInRange (panel .k) stage) valid h; update-fits = e; less = less }
+      record { work-fits = both-true (validPoint (removal .point)) (removalStageInRange (panel .k) stage) valid h; update-fits = e; ended = refl; less = less }
 
   searched : (left : ℕ) (after : Searched) → OneStep (panel .k) left after → OneMove (panel .k) (panel .reach) (left + 2) (removalSearched removal after)
-  unfolding removalSearched removalAnswered ends removalStageInRange removalLeft searchedInRange searchedLeft answerInRange updateInRange writerInRange writerLeft
+  unfolding removalSearched removalAnswered ends removalStageInRange removalLeft searchedInRange searchedLeft answerInRange updateInRange writerInRange writerLeft isUnderway isIdle
   searched left (Going search) s = at-stage _ (Searching search) Nothing (s .fits) refl (omega (arith, s .less))
   searched left (Answered (SearchAnswer·Found place)) s = at-stage _ (RemovalStage·Found place) Nothing (s .fits) refl (omega (arith, s .less))
-  searched left (Answered Unknown) s = record { work-fits = refl; update-fits = refl; less = omega arith }
+  searched left (Answered Unknown) s = record { work-fits = refl; update-fits = refl; ended = refl; less = omega arith }
 
   empties : (index : ℕ) → within 1 index (panel .k) ≡ true → OneMove (panel .k) (panel .reach) 2 (removalEmpties panel removal index)
-  unfolding removalEmpties ends removalStageInRange removalLeft updateInRange writerInRange writerLeft
+  unfolding removalEmpties ends removalStageInRange removalLeft updateInRange writerInRange writerLeft isUnderway isIdle
   empties index h = go (isLast panel index)
     where
       go : (last : Bool) → OneMove (panel .k) (panel .reach) 2 (cond last (removalAt removal Lowering (Uncounted index)) (ends (Uncounted index) (removed (panel .reach))))
       go true = at-stage 2 Lowering (Uncounted index) refl h (omega arith)
-      go false = record { work-fits = refl; update-fits = h; less = omega arith }
+      go false = record { work-fits = refl; update-fits = h; ended = refl; less = omega arith }
 
   at-any-stage : (word : ℕ) (stage : RemovalStage) → panel .reach ≤ panel .k → removalStageInRange (panel .k) stage ≡ true → OneMove (panel .k) (panel .reach) (removalLeft (panel .k) stage) (removalStageAdvance panel removal stage word)
-  unfolding removalStageAdvance removalStageInRange removalLeft removalLowers ends updateInRange writerInRange writerLeft
+  unfolding removalStageAdvance removalStageInRange removalLeft removalLowers ends updateInRange writerInRange writerLeft isUnderway isIdle
   at-any-stage word (Searching search) r h = searched _ _ (search-step (panel .k) (panel .reach) (removal .point) search word r h)
   at-any-stage word (RemovalStage·Found place) r h = empties (place .index) h
   at-any-stage word Lowering r h =
-      record { work-fits = refl; update-fits = le-leb (largestCounted panel) (panel .k) (largest-high panel); less = omega arith }
+      record { work-fits = refl; update-fits = le-leb (largestCounted panel) (panel .k) (largest-high panel); ended = refl; less = omega arith }
 
 pub removal-moves : (panel : Record) (removal : Removal) (word : ℕ) → panel .reach ≤ panel .k → removalInRange (panel .k) removal ≡ true → OneMove (panel .k) (panel .reach) (writerLeft (panel .k) (panel .reach) (Removing removal)) (removalAdvance panel removal word)
-unfolding removalAdvance removalInRange writerLeft
+unfolding removalAdvance removalInRange writerLeft isUnderway isIdle
 removal-moves panel removal word r h =
     at-any-stage panel removal (both-left (validPoint (removal .point)) (removalStageInRange (panel .k) (removal .stage)) h) word (removal .stage) r
     (both-right (validPoint (removal .point)) (removalStageInRange (panel .k) (removal .stage)) h)
+
+-- the step whose access stores the reach, and no other, updates the reach
+module _ (panel : Record) (removal : Removal) (word : ℕ) where
+  searched-reach : (reach : ℕ) (after : Searched) → reachAfter reach (removalSearched removal after .update) ≡ reach
+  unfolding removalSearched removalAnswered removalAt ends reachAfter
+  searched-reach reach (Going search) = refl
+  searched-reach reach (Answered (SearchAnswer·Found place)) = refl
+  searched-reach reach (Answered Unknown) = refl
+
+  emptied-reach : (reach index : ℕ) → reachAfter reach (removalEmpties panel removal index .update) ≡ reach
+  unfolding removalEmpties removalAt ends reachAfter
+  emptied-reach reach index = go (isLast panel index)
+    where
+      go : (last : Bool) → reachAfter reach (cond last (removalAt removal Lowering (Uncounted index)) (ends (Uncounted index) (removed (panel .reach))) .update) ≡ reach
+      go true = refl
+      go false = refl
+
+  stage-reach : (stage : RemovalStage) → reachAfter (panel .reach) (removalStageAdvance panel removal stage word .update) ≡ reachStored (panel .reach) (removalStageAccess panel removal stage)
+  unfolding removalStageAdvance removalStageAccess removalLowers storeWord ends reachAfter reachStored
+  stage-reach (Searching search) = searched-reach (panel .reach) (searchAdvance (panel .reach) (removal .point) search word)
+  stage-reach (RemovalStage·Found place) = emptied-reach (panel .reach) (place .index)
+  stage-reach Lowering = refl
+
+  pub removal-reach : reachAfter (panel .reach) (removalAdvance panel removal word .update) ≡ reachStored (panel .reach) (removalAccess panel removal)
+  unfolding removalAdvance removalAccess
+  removal-reach = stage-reach (removal .stage)

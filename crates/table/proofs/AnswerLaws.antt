@@ -5,8 +5,8 @@ use mathlib.Core.Path.{_≡_, refl, ap}
 use mathlib.Core.List.{List, [], _∷_}
 use mathlib.Mathlib.Logic.Function.Defs.{LeftInverse·injective}
 use mathlib.Core.Bool.{cond}
-use lib.Dec.{eqb}
 use native.Mathlib.Omega.{arith}
+use lib.Dec.{eqb}
 use lib.ListN.{getD}
 use Rattle.refusal.specs.declared.Refusal.{Refusal}
 use Rattle.refusal.specs.Refusals.{numberOf}
@@ -38,6 +38,12 @@ module _ (panel : Record) (slots : List ℕ) (done : Outcome) where
   pub allowed-outcome : unlessRefused 0 panel slots done ≡ done
   unfolding unlessRefused
   allowed-outcome = refl
+
+-- a refused call leaves everything; so what holds of that, and of the call done where it is not refused, holds of the call
+pub unless : (P : Outcome → Type 0) (n : ℕ) (panel : Record) (slots : List ℕ) (done : Outcome) → ((answer : Answer) → P (outcome panel slots answer)) → (n ≡ 0 → P done) → P (unlessRefused n panel slots done)
+unfolding unlessRefused
+unless P zero panel slots done a b = b refl
+unless P (suc n) panel slots done a b = a _
 
 -- which of the answers it is
 tag : Answer → ℕ

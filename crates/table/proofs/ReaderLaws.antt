@@ -1,7 +1,7 @@
 -- Laws of a reader's calls, for whoever reasons about orders of calls: a start or a step of one reader leaves everything else as it was, and keeps a record
 -- in range; a lookup takes at most k + 1 steps and a walk exactly m, whatever the others do in between; a step reads one of the slots lent.
 -- Assumes nothing.
-use Prim.Native.Nat.{ℕ, zero, suc, _+_, _-_, _≤_, _<_}
+use Prim.Native.Nat.{ℕ, _+_, _-_, _≤_, _<_}
 use mathlib.Core.Path.{_≡_, refl, ap, _∙_}
 use mathlib.Core.Bool.{Bool, true, false, cond, not}
 use mathlib.Core.List.{List, [], _∷_}
@@ -10,7 +10,6 @@ use borrow.Author.Tests.{ltb-true, lt-ltb, not-false}
 use lib.Dec.{ltb}
 use lib.ListN.{length}
 use Rattle.refusal.proofs.Laws.{both-left, both-right, both-true, not-refused}
-use Rattle.hash.proofs.Laws.{position-below}
 use Rattle.record.specs.declared.Record.{Record}
 use Rattle.record.specs.declared.Search.{Search}
 use Rattle.record.specs.declared.Search.the-variants.{Unread, Probing}
@@ -20,22 +19,15 @@ use Rattle.record.specs.declared.ReaderWork.the-variants.{Idle, LookingUp, Walk
 use Rattle.record.specs.Parts.{workOf, withWork}
 use Rattle.record.specs.Ranges.{validPoint, searchInRange, lookupInRange, workInRange, inRange}
 use Rattle.record.proofs.Laws.{fields, sizes-in-range, work-in-range, with-work-in-range, others-stay}
-use Rattle.table.specs.declared.access.ReadAccess.{ReadAccess}
-use Rattle.table.specs.declared.access.ReadAccess.the-variants.{Nothing, Reach, Slot}
+use Rattle.table.specs.declared.access.ReadAccess.the-variants.{Slot}
 use Rattle.table.specs.declared.search.Searched.{Searched}
 use Rattle.table.specs.declared.search.Searched.the-variants.{Going, Answered}
-use Rattle.table.specs.Answers.{Answer, started, walked, walkedLast, Outcome, outcome, unlessRefused}
-use Rattle.table.specs.Search.{searchAccess}
+use Rattle.table.specs.Answers.{Answer, started, walked, walkedLast, Outcome, outcome}
 use Rattle.table.specs.Reader.{readerAccess, ReaderMove, lookupMove, lookupAdvance, walkAdvance, readerAdvance, moved, readerRuns, stepRefusal, stepReader}
 use Rattle.table.specs.Starts.{lookupRefusal, startReader, startLookup, startWalk}
 use Rattle.table.specs.ReaderFacts.{OnlyWorkOf, Met, workAfter, ReachWithin, at-end, at-step}
-use Rattle.table.proofs.SearchLaws.{searchLeft, searchedLeft, searchedInRange, OneStep, search-step}
-
--- a refused call leaves everything; so what holds of that, and of the call done where it is not refused, holds of the call
-unless : (P : Outcome → Type 0) (n : ℕ) (panel : Record) (slots : List ℕ) (done : Outcome) → ((answer : Answer) → P (outcome panel slots answer)) → (n ≡ 0 → P done) → P (unlessRefused n panel slots done)
-unfolding unlessRefused
-unless P zero panel slots done a b = b refl
-unless P (suc n) panel slots done a b = a _
+use Rattle.table.proofs.AnswerLaws.{unless}
+use Rattle.table.proofs.SearchLaws.{searchLeft, searchedLeft, searchedInRange, OneStep, search-step, slotRead, search-inside}
 
 module _ (reader : ℕ) (panel : Record) (slots : List ℕ) where
   untouched : (answer : Answer) → OnlyWorkOf reader panel slots (outcome panel slots answer)
@@ -88,9 +80,9 @@ stepsLeft m k (LookingUp lookup) = searchLeft k (lookup .search)
 stepsLeft m k (Walking walk) = m - walk .next
 
 -- after a step: in range, and a step less to go
-record OneLess (m k left : ℕ) (work : ReaderWork) : Type 0 where
-  in-range : workInRange m k work ≡ true
-  less : stepsLeft m k work ≤ left - 1
+pub record OneLess (m k left : ℕ) (work : ReaderWork) : Type 0 where
+  pub in-range : workInRange m k work ≡ true
+  pub less : stepsLeft m k work ≤ left - 1
 
 lookup-moves : (m k point left : ℕ) (after : Searched) → validPoint point ≡ true → OneStep k left after → OneLess m k left (lookupMove point after .work)
 unfolding lookupMove workInRange lookupInRange searchedInRange searchedLeft stepsLeft
@@ -105,7 +97,7 @@ walk-moves m k walk word = go (ltb (walk .next + 1) m) refl
     go true e = record { in-range = e; less = omega arith }
     go false e = record { in-range = refl; less = omega arith }
 
-advances : (m k reach : ℕ) (work : ReaderWork) (word : ℕ) → reach ≤ k → workInRange m k work ≡ true → OneLess m k (stepsLeft m k work) (readerAdvance m reach work word .work)
+pub advances : (m k reach : ℕ) (work : ReaderWork) (word : ℕ) → reach ≤ k → workInRange m k work ≡ true → OneLess m k (stepsLeft m k work) (readerAdvance m reach work word .work)
 unfolding readerAdvance lookupAdvance workInRange lookupInRange stepsLeft
 advances m k reach Idle word h e = record { in-range = refl; less = omega arith }
 advances m k reach (LookingUp lookup) word h e =
@@ -145,7 +137,7 @@ module _ (panel : Record) (slots : List ℕ) (reader : ℕ) (fits : inRange (len
   unfolding startWalk workInRange
   walk-start-in-range = start-in-range _ _ (λ e. lt-ltb 0 (panel .m) (omega (arith, sizes-in-range (length slots) panel fits .m-low)))
 
-none-left : (m k : ℕ) (work : ReaderWork) → workInRange m k work ≡ true → stepsLeft m k work ≤ 0 → work ≡ Idle
+pub none-left : (m k : ℕ) (work : ReaderWork) → workInRange m k work ≡ true → stepsLeft m k work ≤ 0 → work ≡ Idle
 unfolding workInRange stepsLeft searchLeft
 none-left m k Idle e h = refl
 none-left m k (LookingUp lookup) e h = absurd (go (lookup .search) h)
@@ -197,27 +189,16 @@ walk-underway m met h = walk-goes-on m 0 met (omega arith) ∙ ap (λ (n : ℕ).
 pub walk-ended : (m : ℕ) (met : List Met) → 1 ≤ m → length met ≡ m → workAfter m (Walking (record { next = 0 })) met ≡ Idle
 walk-ended m met h e = walk-ends m 0 met (omega arith) (omega arith)
 
--- the slot that an access names; 0 where it names none
-slotOf : ReadAccess → ℕ
-slotOf Nothing = 0
-slotOf Reach = 0
-slotOf (Slot slot) = slot
-
-search-inside : (m point : ℕ) (search : Search) → 1 ≤ m → slotOf (searchAccess m point search) < m
-unfolding slotOf searchAccess
-search-inside m point Unread h = h
-search-inside m point (Probing probe) h = position-below m point (probe .next) h
-
-work-inside : (m k : ℕ) (work : ReaderWork) → 1 ≤ m → workInRange m k work ≡ true → slotOf (readerAccess m work) < m
-unfolding slotOf readerAccess workInRange
+work-inside : (m k : ℕ) (work : ReaderWork) → 1 ≤ m → workInRange m k work ≡ true → slotRead (readerAccess m work) < m
+unfolding slotRead readerAccess workInRange
 work-inside m k Idle h e = h
 work-inside m k (LookingUp lookup) h e = search-inside m (lookup .point) (lookup .search) h
 work-inside m k (Walking walk) h e = ltb-true (walk .next) m e
 
 -- "A step reads .. exactly one slot": one of the slots lent, so that the word read is a slot's
 pub access-inside : (panel : Record) (slots : List ℕ) (reader slot : ℕ) → inRange (length slots) panel ≡ true → readerAccess (panel .m) (workOf panel reader) ≡ Slot slot → slot < length slots
-unfolding slotOf
+unfolding slotRead
 access-inside panel slots reader slot fits e =
     let sizes = sizes-in-range (length slots) panel fits in
     let inside = work-inside (panel .m) (panel .k) (workOf panel reader) (sizes .m-low) (work-in-range (length slots) panel reader fits) in
-    omega (arith, inside, sizes .whole, ap slotOf e)
+    omega (arith, inside, sizes .whole, ap slotRead e)

@@ -1,6 +1,7 @@
--- Laws of a search: each step goes on in range, finds a place in range or ends, and takes one of the steps that are left.
+-- Laws of a search: each step goes on in range, finds a place in range or ends, and takes one of the steps that are left;
+-- a step reads one of the slots lent.
 -- Assumes nothing.
-use Prim.Native.Nat.{ℕ, _+_, _-_, _≤_}
+use Prim.Native.Nat.{ℕ, _+_, _-_, _≤_, _<_}
 use mathlib.Core.Path.{_≡_, refl}
 use mathlib.Core.Bool.{Bool, true, false, cond}
 use native.Mathlib.Omega.{arith}
@@ -8,16 +9,19 @@ use borrow.Author.Tests.{ltb-true, leb-true, le-leb, eqb-false}
 use lib.Dec.{ltb, leb, eqb}
 use Rattle.refusal.specs.Judging.{within}
 use Rattle.refusal.proofs.Laws.{both-left, both-right, both-true, within-low, within-high, is-within}
+use Rattle.hash.proofs.Laws.{position-below}
 use Rattle.record.specs.declared.Probe.{Probe}
 use Rattle.record.specs.declared.Search.{Search}
 use Rattle.record.specs.declared.Search.the-variants.{Unread, Probing}
 use Rattle.record.specs.Ranges.{searchInRange}
+use Rattle.table.specs.declared.access.ReadAccess.{ReadAccess}
+use Rattle.table.specs.declared.access.ReadAccess.the-variants.{Nothing, Reach, Slot}
 use Rattle.table.specs.declared.search.Searched.{Searched}
 use Rattle.table.specs.declared.search.Searched.the-variants.{Going, Answered}
 use Rattle.table.specs.declared.search.SearchAnswer.{SearchAnswer}
 use Rattle.table.specs.declared.search.SearchAnswer.the-variants.{Found, Unknown}
 use Rattle.table.specs.Word.{pointOf, valueOf}
-use Rattle.table.specs.Search.{firstProbe, nextProbe, probeAdvance, searchAdvance}
+use Rattle.table.specs.Search.{searchAccess, firstProbe, nextProbe, probeAdvance, searchAdvance}
 
 -- the steps that are left of a search, at most
 unfoldable pub searchLeft : ℕ → Search → ℕ
@@ -95,3 +99,14 @@ pub search-step : (k reach point : ℕ) (search : Search) (word : ℕ) → reach
 unfolding searchAdvance searchLeft
 search-step k reach point Unread word a h = let first = first-step k reach a in record { fits = first .fits; less = omega (arith, first .less) }
 search-step k reach point (Probing probe) word a h = probe-step k point probe word h
+
+-- the slot that an access names; 0 where it names none
+unfoldable pub slotRead : ReadAccess → ℕ
+slotRead Nothing = 0
+slotRead Reach = 0
+slotRead (Slot slot) = slot
+
+pub search-inside : (m point : ℕ) (search : Search) → 1 ≤ m → slotRead (searchAccess m point search) < m
+unfolding slotRead searchAccess
+search-inside m point Unread h = h
+search-inside m point (Probing probe) h = position-below m point (probe .next) h

@@ -1,5 +1,6 @@
 -- What calls hand back, in document 01's words, and for each case of the answer enums which of these it is.
 use Prim.Native.Nat.{ℕ, zero, suc}
+use mathlib.Core.Bool.{Bool, true, false}
 use mathlib.Core.List.{List, [], _∷_}
 use Rattle.refusal.specs.Refusals.{numberOf}
 use Rattle.record.specs.declared.Record.{Record}
@@ -79,6 +80,20 @@ paperTotal (TotalAnswer·Refused r) = refused (numberOf r)
 abbrev pub paperDisplay : DisplayAnswer → Answer
 paperDisplay (Shown point) = gives (point ∷ [])
 paperDisplay (DisplayAnswer·Refused r) = refused (numberOf r)
+
+-- an operation has been started or goes on, so that a step of it comes next
+unfoldable pub isUnderway : Answer → Bool
+isUnderway started = true
+isUnderway underway = true
+isUnderway (lookedUp value) = false
+isUnderway (placed slot index) = false
+isUnderway (changed value) = false
+isUnderway (removed reach) = false
+isUnderway (endedWith n) = false
+isUnderway (walked word) = true
+isUnderway (walkedLast word) = false
+isUnderway (gives values) = false
+isUnderway (refused n) = false
 
 -- what a call leaves: the record, the slots and the answer
 pub record Outcome : Type 0 where

@@ -7,3 +7,4 @@ pub mod Starts
 pub mod FreshPanel
 pub mod ReaderFacts
 pub mod Disabled
+pub mod Whole

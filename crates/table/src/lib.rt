@@ -8,6 +8,7 @@ mod fresh_panel;
 mod reader;
 pub mod search;
 mod starts;
+mod whole;
 pub mod word;
 
 pub use answers::DisplayAnswer;
@@ -26,3 +27,4 @@ pub use reader::step_reader;
 pub use starts::StartOutcome;
 pub use starts::start_lookup;
 pub use starts::start_walk;
+pub use whole::whole_lookup;

@@ -54,7 +54,7 @@ fn fresh_answer(answer: FreshAnswer) {
     }
 }
 
-fn words(slots: &[u64]) {
+pub(crate) fn words(slots: &[u64]) {
     for i in 0..slots.len() {
         word(slots[i]);
     }

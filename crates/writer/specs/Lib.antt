@@ -1,2 +1,4 @@
 pub mod Step
 pub mod Starts
+pub mod Whole
+pub mod WriterFacts

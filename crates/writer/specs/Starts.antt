@@ -15,7 +15,7 @@ use Rattle.record.specs.declared.WriterWork.the-variants.{Putting, Changing, Re
 use Rattle.record.specs.Parts.{withWriter}
 use Rattle.record.specs.Ranges.{validPoint, inRange}
 use Rattle.table.specs.Answers.{started, Outcome, outcome, unlessRefused}
-use Rattle.writer.specs.Step.{isIdle}
+use Rattle.moves.specs.Moves.{isIdle}
 
 -- "put, change, remove 1, 2, 4"
 unfoldable pub startRefusal : ℕ → Record → ℕ → ℕ

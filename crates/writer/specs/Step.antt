@@ -1,6 +1,6 @@
 -- Document 01, "Steps": the writer's step.
 use Prim.Native.Nat.{ℕ}
-use mathlib.Core.Bool.{Bool, true, false, not}
+use mathlib.Core.Bool.{not}
 use mathlib.Core.List.{List}
 use lib.ListN.{length}
 use Rattle.refusal.specs.Judging.{refuseIf}
@@ -15,17 +15,10 @@ use Rattle.moves.specs.declared.memory.WriterAccess.{WriterAccess}
 use Rattle.moves.specs.declared.memory.WriterAccess.the-variants.{Read}
 use Rattle.moves.specs.declared.update.Update.the-variants.{Nothing as Update·Nothing}
 use Rattle.moves.specs.Memory.{accessRead, slotsAfter}
-use Rattle.moves.specs.Moves.{WriterMove, updated}
+use Rattle.moves.specs.Moves.{WriterMove, isIdle, updated}
 use Rattle.put.specs.Put.{putAccess, putAdvance}
 use Rattle.change.specs.Change.{changeAccess, changeAdvance}
 use Rattle.removal.specs.Removal.{removalAccess, removalAdvance}
-
--- no put, change or removal underway
-unfoldable pub isIdle : WriterWork → Bool
-isIdle Idle = true
-isIdle (Putting put) = false
-isIdle (Changing change) = false
-isIdle (Removing removal) = false
 
 -- part 1: the access that comes next
 unfoldable pub writerAccess : Record → WriterWork → WriterAccess

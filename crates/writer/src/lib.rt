@@ -3,9 +3,13 @@
 // what follows from the word (pure).
 mod starts;
 mod step;
+mod whole;
 
 pub use starts::start_change;
 pub use starts::start_put;
 pub use starts::start_removal;
 pub use step::WriterOutcome;
 pub use step::step_writer;
+pub use whole::whole_change;
+pub use whole::whole_put;
+pub use whole::whole_removal;

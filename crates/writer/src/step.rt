@@ -3,8 +3,8 @@ ghost use mathlib.Core.Path.{_≡_};
 ghost use Rattle.refusal.specs.Refusals.{paperJudged};
 ghost use Rattle.record.specs.Parts.{withWriter};
 ghost use Rattle.table.specs.Answers.{paperWriter, outcome};
-ghost use Rattle.moves.specs.Moves.{updated, paperMoved};
-ghost use Rattle.writer.specs.Step.{isIdle, writerAccess, writerAdvance, stepRefusal, stepWriter};
+ghost use Rattle.moves.specs.Moves.{isIdle, updated, paperMoved};
+ghost use Rattle.writer.specs.Step.{writerAccess, writerAdvance, stepRefusal, writerRuns, stepWriter};
 use change::change_access;
 use change::change_advance;
 use moves::memory::WriterAccess;
@@ -97,6 +97,15 @@ fn finish(panel: Record, next: Moved) -> WriterOutcome
     }
 }
 
+// The three parts of a step.
+pub(crate) fn run_step(panel: Record, slots: &mut [u64]) -> WriterOutcome
+    ensures { λ r. ⌜ outcome (r .panel) (now (slots .exit)) (paperWriter (r .answer)) ≡ writerRuns panel (now (slots .entry)) (panel .writer) ⌝ }
+{
+    let work = panel.writer;
+    let word = perform(slots, writer_access(panel, work));
+    finish(panel, writer_advance(panel, work, word))
+}
+
 // The next step of the writer's put, change or removal.
 pub fn step_writer(panel: Record, slots: &mut [u64]) -> WriterOutcome
     ensures { λ r. ⌜ outcome (r .panel) (now (slots .exit)) (paperWriter (r .answer)) ≡ stepWriter panel (now (slots .entry)) ⌝ }
@@ -106,10 +115,6 @@ pub fn step_writer(panel: Record, slots: &mut [u64]) -> WriterOutcome
             panel: panel,
             answer: WriterAnswer::Refused(refusal),
         },
-        Judged::Allowed => {
-            let work = panel.writer;
-            let word = perform(slots, writer_access(panel, work));
-            finish(panel, writer_advance(panel, work, word))
-        }
+        Judged::Allowed => run_step(panel, slots),
     }
 }

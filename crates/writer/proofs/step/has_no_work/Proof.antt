@@ -1,7 +1,7 @@
 -- `writer::step::has_no_work` meets its contract, case by case.
 -- Assumes nothing.
 use borrow.Author.Needs.{needs}
-use Rattle.writer.specs.Step.{isIdle}
+use Rattle.moves.specs.Moves.{isIdle}
 use Rattle.writer.proofs.step.has_no_work.Statement.{statement}
 use Rattle.writer.proofs.step.has_no_work.Tie as tie
 

@@ -1,0 +1,144 @@
+-- Laws of the writer's calls, for whoever reasons about orders of calls: a step does what its access says and leaves the rest, keeps a record in range,
+-- and takes one of the steps that are left; a put takes at most 2k + 2, a change k + 2, a removal k + 3.
+-- Assumes nothing.
+use Prim.Native.Nat.{ℕ, zero, suc, _+_, _*_, _≤_, _<_}
+use mathlib.Core.Path.{_≡_, refl, ap, _∙_, sym, transport}
+use mathlib.Core.Bool.{Bool, true, false, not, false≢true}
+use mathlib.Core.List.{List}
+use native.Mathlib.Omega.{arith}
+use borrow.Author.Tests.{not-false}
+use lib.ListN.{length, getD, length-set}
+use lib.Seq.{getD-set-same, getD-set-other}
+use Rattle.refusal.specs.Judging.{both, refuseIf}
+use Rattle.refusal.proofs.Laws.{both-true, not-refused}
+use Rattle.record.specs.declared.Record.{Record}
+use Rattle.record.specs.declared.WriterWork.{WriterWork}
+use Rattle.record.specs.declared.WriterWork.the-variants.{Idle, Putting, Changing, Removing}
+use Rattle.record.specs.Parts.{withWriter}
+use Rattle.record.specs.Ranges.{validPoint, searchInRange, putStageInRange, putInRange, alterationInRange, changeStageInRange, changeInRange, removalStageInRange, removalInRange, writerInRange, inRange}
+use Rattle.record.proofs.Laws.{fields, sizes-in-range, with-writer-in-range}
+use Rattle.table.specs.Answers.{started, isUnderway, Outcome, outcome, unlessRefused}
+use Rattle.table.proofs.AnswerLaws.{unless}
+use Rattle.moves.specs.declared.memory.WriterAccess.{WriterAccess}
+use Rattle.moves.specs.declared.memory.WriterAccess.the-variants.{Read, StoreReach, StoreSlot}
+use Rattle.moves.specs.Memory.{accessRead, slotsAfter}
+use Rattle.moves.specs.Moves.{WriterMove, isIdle, updated}
+use Rattle.moves.proofs.MoveLaws.{updateInRange, updated-in-range, reachAfter, reachStored, Updated, update-leaves, writerLeft, OneMove}
+use Rattle.put.proofs.PutLaws.{put-moves, put-reach}
+use Rattle.change.proofs.ChangeLaws.{change-moves, change-reach}
+use Rattle.removal.proofs.RemovalLaws.{removal-moves, removal-reach}
+use Rattle.writer.specs.Starts.{startRefusal, startWriter, startPut, startChange, startRemoval}
+use Rattle.writer.specs.Whole.{Begun, writerStep, wholePut, wholeChange, wholeRemoval}
+use Rattle.writer.specs.Step.{writerAccess, writerAdvance, stepRefusal, moved, writerRuns, stepWriter}
+
+writer-moves : (panel : Record) (work : WriterWork) (word : ℕ) → 1 ≤ panel .k → panel .reach ≤ panel .k → writerInRange (panel .k) work ≡ true → isIdle work ≡ false → OneMove (panel .k) (panel .reach) (writerLeft (panel .k) (panel .reach) work) (writerAdvance panel work word)
+unfolding writerAdvance writerInRange isIdle
+writer-moves panel Idle word low r h e = absurd (false≢true (sym e))
+writer-moves panel (Putting put) word low r h e = put-moves (panel .m) (panel .k) (panel .reach) put word low r h
+writer-moves panel (Changing change) word low r h e = change-moves (panel .k) (panel .reach) change word r h
+writer-moves panel (Removing removal) word low r h e = removal-moves panel removal word r h
+
+writer-reach : (panel : Record) (work : WriterWork) (word : ℕ) → reachAfter (panel .reach) (writerAdvance panel work word .update) ≡ reachStored (panel .reach) (writerAccess panel work)
+unfolding writerAdvance writerAccess reachAfter reachStored
+writer-reach panel Idle word = refl
+writer-reach panel (Putting put) word = put-reach (panel .m) (panel .k) (panel .reach) put word
+writer-reach panel (Changing change) word = change-reach (panel .m) (panel .reach) change word
+writer-reach panel (Removing removal) word = removal-reach panel removal word
+
+slots-length : (slots : List ℕ) (access : WriterAccess) → length (slotsAfter slots access) ≡ length slots
+unfolding slotsAfter
+slots-length slots (Read access) = refl
+slots-length slots (StoreReach reach) = refl
+slots-length slots (StoreSlot store) = length-set slots (store .slot) (store .word)
+
+-- a step of a writer at work on a record in range
+module _ (panel : Record) (slots : List ℕ) (fits : inRange (length slots) panel ≡ true) (works : isIdle (panel .writer) ≡ false) where
+  access : WriterAccess
+  access = writerAccess panel (panel .writer)
+
+  move : WriterMove
+  move = writerAdvance panel (panel .writer) (accessRead slots access)
+
+  after : Outcome
+  after = writerRuns panel slots (panel .writer)
+
+  -- no call is refused
+  pub allowed : stepWriter panel slots ≡ writerRuns panel slots (panel .writer)
+  unfolding stepWriter stepRefusal refuseIf unlessRefused
+  allowed = rw (fits, works)
+
+  one : OneMove (panel .k) (panel .reach) (writerLeft (panel .k) (panel .reach) (panel .writer)) move
+  unfolding move access
+  one =
+      writer-moves panel (panel .writer) _ (sizes-in-range (length slots) panel fits .k-low) (fields (length slots) panel fits .reach-fits)
+      (fields (length slots) panel fits .writer-fits) works
+
+  leaves : Updated panel (move .update)
+  leaves = update-leaves panel (move .update)
+
+  pub run-in-range : inRange (length (writerRuns panel slots (panel .writer) .slots)) (writerRuns panel slots (panel .writer) .panel) ≡ true
+  unfolding writerRuns moved move access
+  run-in-range =
+      transport (λ j. inRange (sym (slots-length slots access) j) (withWriter (updated panel (move .update)) (move .work)) ≡ true)
+      (with-writer-in-range (length slots) (updated panel (move .update)) (updated-in-range (length slots) panel (move .update) fits (one .update-fits)) (move .work)
+      (ap (λ (k : ℕ). writerInRange k (move .work)) (leaves .k-stays) ∙ one .work-fits))
+
+  -- "A step that ends an operation .. leaves that party idle", and only such a step does
+  pub run-ended : isUnderway (writerRuns panel slots (panel .writer) .answer) ≡ not (isIdle (writerRuns panel slots (panel .writer) .panel .writer))
+  unfolding writerRuns moved withWriter move access
+  run-ended = one .ended
+
+  pub run-less : writerLeft (writerRuns panel slots (panel .writer) .panel .k) (writerRuns panel slots (panel .writer) .panel .reach) (writerRuns panel slots (panel .writer) .panel .writer) + 1 ≤ writerLeft (panel .k) (panel .reach) (panel .writer)
+  unfolding writerRuns moved withWriter move access
+  run-less = transport (λ j. writerLeft (sym (leaves .k-stays) j) (sym (leaves .reach-after) j) (move .work) + 1 ≤ writerLeft (panel .k) (panel .reach) (panel .writer)) (one .less)
+
+pub run-length : (panel : Record) (slots : List ℕ) → length (writerRuns panel slots (panel .writer) .slots) ≡ length slots
+unfolding writerRuns moved
+run-length panel slots = slots-length slots (writerAccess panel (panel .writer))
+
+-- what holds of a writer at work and right after its last step: the record in range, and work exactly while the operation is underway
+pub record AtWork (now : Outcome) : Type 0 where
+  pub fits : inRange (length (now .slots)) (now .panel) ≡ true
+  pub busy : isUnderway (now .answer) ≡ not (isIdle (now .panel .writer))
+
+not-idle : (b : Bool) → not b ≡ true → b ≡ false
+not-idle true e = absurd (false≢true e)
+not-idle false e = refl
+
+-- an operation that is underway has work
+pub works : (now : Outcome) → AtWork now → isUnderway (now .answer) ≡ true → isIdle (now .panel .writer) ≡ false
+works now p e = not-idle (isIdle (now .panel .writer)) (sym (p .busy) ∙ e)
+
+pub run-at-work : (panel : Record) (slots : List ℕ) → inRange (length slots) panel ≡ true → isIdle (panel .writer) ≡ false → AtWork (writerRuns panel slots (panel .writer))
+run-at-work panel slots fits working = record { fits = run-in-range panel slots fits working; busy = run-ended panel slots fits working }
+
+-- a start, and what it leaves
+module _ (panel : Record) (slots : List ℕ) (point : ℕ) (work : WriterWork) where
+  started-fits : startRefusal (length slots) panel point ≡ 0 → (validPoint point ≡ true → writerInRange (panel .k) work ≡ true) → inRange (length slots) (withWriter panel work) ≡ true
+  unfolding startRefusal
+  started-fits e h =
+      let after-1 = not-refused (not (inRange (length slots) panel)) 1 _ (omega arith) e in
+      let after-2 = not-refused (not (validPoint point)) 2 _ (omega arith) (after-1 .1) in
+      with-writer-in-range (length slots) panel (not-false (inRange (length slots) panel) (after-1 .0)) work (h (not-false (validPoint point) (after-2 .0)))
+
+  begun : (n : ℕ) → startRefusal (length slots) panel point ≡ n → (validPoint point ≡ true → writerInRange (panel .k) work ≡ true) → isIdle work ≡ false → Begun (unlessRefused n panel slots (outcome (withWriter panel work) slots started))
+  unfolding unlessRefused isUnderway withWriter
+  begun zero e h w = record { fits = λ u. started-fits e h; works = λ u. w }
+  begun (suc n) e h w = record { fits = λ u. absurd (false≢true u); works = λ u. absurd (false≢true u) }
+
+  pub start-begins : (validPoint point ≡ true → writerInRange (panel .k) work ≡ true) → isIdle work ≡ false → Begun (startWriter panel slots point work)
+  unfolding startWriter
+  start-begins h w = begun (startRefusal (length slots) panel point) refl h w
+
+module _ (panel : Record) (slots : List ℕ) (point : ℕ) where
+  pub put-begins : (value : ℕ) → Begun (startPut panel slots point value)
+  unfolding startPut writerInRange putInRange putStageInRange searchInRange isIdle
+  put-begins value = start-begins panel slots point _ (λ valid. both-true (validPoint point) true valid refl) refl
+
+  pub change-begins : (keep flip : ℕ) → Begun (startChange panel slots point keep flip)
+  unfolding startChange writerInRange changeInRange alterationInRange changeStageInRange searchInRange isIdle
+  change-begins keep flip = start-begins panel slots point _ (λ valid. both-true (validPoint point) (both true true) valid (both-true true true refl refl)) refl
+
+  pub removal-begins : Begun (startRemoval panel slots point)
+  unfolding startRemoval writerInRange removalInRange removalStageInRange searchInRange isIdle
+  removal-begins = start-begins panel slots point _ (λ valid. both-true (validPoint point) true valid refl) refl

@@ -1,7 +1,7 @@
 -- Laws of a change's step: it goes on in range or ends, and takes one of the steps that are left; so a change takes at most k + 2;
--- it leaves the reach.
+-- it leaves the reach, and touches one of the slots lent.
 -- Assumes nothing.
-use Prim.Native.Nat.{ℕ, _+_, _≤_}
+use Prim.Native.Nat.{ℕ, _+_, _≤_, _<_}
 use mathlib.Core.Path.{_≡_, refl}
 use mathlib.Core.Bool.{Bool, true, false}
 use native.Mathlib.Omega.{arith}
@@ -9,6 +9,7 @@ use borrow.Author.Tests.{le-leb}
 use lib.Dec.{leb, eqb}
 use Rattle.refusal.specs.Judging.{both, either, within}
 use Rattle.refusal.proofs.Laws.{both-left, both-right, both-true, within-high}
+use Rattle.hash.proofs.Laws.{position-below}
 use Rattle.record.specs.declared.Alteration.{Alteration}
 use Rattle.record.specs.declared.Alteration.the-variants.{Given, Commanded}
 use Rattle.record.specs.declared.Change.{Change}
@@ -23,10 +24,10 @@ use Rattle.table.specs.declared.search.Searched.the-variants.{Going, Answered}
 use Rattle.table.specs.declared.search.SearchAnswer.the-variants.{Found as SearchAnswer·Found, Unknown}
 use Rattle.table.specs.Answers.{isUnderway}
 use Rattle.table.specs.Search.{searchAdvance}
-use Rattle.table.proofs.SearchLaws.{searchedLeft, searchedInRange, answerInRange, OneStep, search-step}
+use Rattle.table.proofs.SearchLaws.{search-inside, searchedLeft, searchedInRange, answerInRange, OneStep, search-step}
 use Rattle.moves.specs.Memory.{storeWord}
 use Rattle.moves.specs.Moves.{isIdle, goesOn, ends}
-use Rattle.moves.proofs.MoveLaws.{updateInRange, reachAfter, reachStored, changeLeft, writerLeft, OneMove}
+use Rattle.moves.proofs.MoveLaws.{slotNamed, updateInRange, reachAfter, reachStored, changeLeft, writerLeft, OneMove}
 use Rattle.change.specs.Change.{newValue, changeStageAccess, changeAccess, alterationEnds, commandEnds, changeAt, changeAnswered, changeSearched, changeStores, changeStageAdvance, changeAdvance}
 
 either-right : (a b : Bool) → b ≡ true → either a b ≡ true
@@ -100,3 +101,14 @@ module _ (m reach : ℕ) (change : Change) (word : ℕ) where
   pub change-reach : reachAfter reach (changeAdvance reach change word .update) ≡ reachStored reach (changeAccess m change)
   unfolding changeAdvance changeAccess
   change-reach = stage-reach (change .stage)
+
+-- a step reads or stores one of the slots lent
+module _ (m : ℕ) (change : Change) (low : 1 ≤ m) where
+  stage-inside : (stage : ChangeStage) → slotNamed (changeStageAccess m change stage) < m
+  unfolding changeStageAccess storeWord slotNamed
+  stage-inside (Searching search) = search-inside m (change .point) search low
+  stage-inside (ChangeStage·Found place) = position-below m (change .point) (place .index) low
+
+  pub change-inside : slotNamed (changeAccess m change) < m
+  unfolding changeAccess
+  change-inside = stage-inside (change .stage)

@@ -24,7 +24,7 @@ use Rattle.record.specs.Parts.{withReach, withCount, withStation, countOf}
 use Rattle.record.specs.Ranges.{stationInRange, writerInRange, inRange}
 use Rattle.record.proofs.Laws.{with-reach-in-range, with-count-in-range, with-station-in-range, count-in-range}
 use Rattle.table.specs.Answers.{isUnderway}
-use Rattle.table.proofs.SearchLaws.{searchLeft}
+use Rattle.table.proofs.SearchLaws.{searchLeft, slotRead}
 use Rattle.moves.specs.declared.memory.WriterAccess.{WriterAccess}
 use Rattle.moves.specs.declared.memory.WriterAccess.the-variants.{Read, StoreReach, StoreSlot}
 use Rattle.moves.specs.declared.update.Update.{Update}
@@ -64,6 +64,12 @@ unfoldable pub reachStored : ℕ → WriterAccess → ℕ
 reachStored reach (Read access) = reach
 reachStored reach (StoreReach new) = new
 reachStored reach (StoreSlot store) = reach
+
+-- the slot that an access names; 0 where it names none
+unfoldable pub slotNamed : WriterAccess → ℕ
+slotNamed (Read access) = slotRead access
+slotNamed (StoreReach new) = 0
+slotNamed (StoreSlot store) = store .slot
 
 -- what an update leaves alone, and the reach after it
 pub record Updated (panel : Record) (update : Update) : Type 0 where

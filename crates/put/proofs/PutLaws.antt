@@ -1,7 +1,7 @@
 -- Laws of a put's step: it goes on in range or ends, and takes one of the steps that are left; so a put takes at most 2k + 2;
--- it updates the reach in the step whose access stores it.
+-- it updates the reach in the step whose access stores it, and touches one of the slots lent.
 -- Assumes nothing.
-use Prim.Native.Nat.{ℕ, _+_, _-_, _≤_}
+use Prim.Native.Nat.{ℕ, _+_, _-_, _≤_, _<_}
 use mathlib.Core.Path.{_≡_, refl, ap, _∙_}
 use mathlib.Core.Bool.{Bool, true, false, cond}
 use native.Mathlib.Omega.{arith}
@@ -10,6 +10,7 @@ use lib.Dec.{ltb, eqb}
 use Rattle.refusal.specs.Judging.{within}
 use Rattle.refusal.proofs.Laws.{both-left, both-right, both-true, within-high, is-within}
 use Rattle.hash.specs.Position.{positionOf}
+use Rattle.hash.proofs.Laws.{position-below}
 use Rattle.record.specs.declared.Search.{Search}
 use Rattle.record.specs.declared.Search.the-variants.{Unread, Probing}
 use Rattle.record.specs.declared.Put.{Put}
@@ -23,12 +24,12 @@ use Rattle.table.specs.declared.search.SearchAnswer.the-variants.{Found as Sear
 use Rattle.table.specs.Answers.{isUnderway, underway, placed, endedWith}
 use Rattle.table.specs.Word.{wordOf}
 use Rattle.table.specs.Search.{searchAdvance}
-use Rattle.table.proofs.SearchLaws.{searchLeft, searchedLeft, searchedInRange, answerInRange, OneStep, first-step, probe-step}
+use Rattle.table.proofs.SearchLaws.{slotRead, search-inside, searchLeft, searchedLeft, searchedInRange, answerInRange, OneStep, first-step, probe-step}
 use Rattle.moves.specs.declared.memory.WriterAccess.the-variants.{StoreReach}
 use Rattle.moves.specs.Memory.{storeWord}
 use Rattle.moves.specs.declared.update.Update.the-variants.{Nothing, Reach, Counted}
 use Rattle.moves.specs.Moves.{WriterMove, isIdle, goesOn, ends}
-use Rattle.moves.proofs.MoveLaws.{updateInRange, reachAfter, reachStored, raising, raising-low, raising-high, raising-grows, putSearchLeft, putLeft, writerLeft, OneMove}
+use Rattle.moves.proofs.MoveLaws.{slotNamed, updateInRange, reachAfter, reachStored, raising, raising-low, raising-high, raising-grows, putSearchLeft, putLeft, writerLeft, OneMove}
 use Rattle.put.specs.Put.{putStageAccess, putAccess, putAt, putAnswered, putSearched, putScanned, putTakes, putStageAdvance, putAdvance}
 
 search-left : (k reach : ℕ) (search : Search) → putSearchLeft k reach search ≤ searchLeft k search + (k + 1 + raising reach k)
@@ -130,3 +131,20 @@ module _ (m k reach : ℕ) (put : Put) (word : ℕ) where
   pub put-reach : reachAfter reach (putAdvance m k reach put word .update) ≡ reachStored reach (putAccess m reach put)
   unfolding putAdvance putAccess
   put-reach = stage-reach (put .stage)
+
+-- a step reads or stores one of the slots lent
+module _ (m reach : ℕ) (put : Put) (low : 1 ≤ m) where
+  stage-inside : (stage : PutStage) → slotNamed (putStageAccess m reach put stage) < m
+  unfolding putStageAccess storeWord slotNamed slotRead
+  stage-inside (Searching search) = search-inside m (put .point) search low
+  stage-inside (Scanning index) = position-below m (put .point) index low
+  stage-inside (PutStage·Found place) = position-below m (put .point) (place .index) low
+  stage-inside (Chosen index) = go (ltb reach index)
+    where
+      go : (above : Bool) → slotNamed (cond above (StoreReach index) (storeWord m (put .point) index (wordOf (put .point) (put .value)))) < m
+      go true = low
+      go false = position-below m (put .point) index low
+
+  pub put-inside : slotNamed (putAccess m reach put) < m
+  unfolding putAccess
+  put-inside = stage-inside (put .stage)

@@ -1,13 +1,14 @@
 -- Laws of a removal's step: it goes on in range or ends, and takes one of the steps that are left; so a removal takes at most k + 3;
--- it updates the reach in the step whose access stores it.
+-- it updates the reach in the step whose access stores it, and touches one of the slots lent.
 -- Assumes nothing.
-use Prim.Native.Nat.{ℕ, _+_, _≤_}
+use Prim.Native.Nat.{ℕ, _+_, _≤_, _<_}
 use mathlib.Core.Path.{_≡_, refl}
 use mathlib.Core.Bool.{Bool, true, false, cond}
 use native.Mathlib.Omega.{arith}
 use borrow.Author.Tests.{le-leb}
 use Rattle.refusal.specs.Judging.{within}
 use Rattle.refusal.proofs.Laws.{both-left, both-right, both-true}
+use Rattle.hash.proofs.Laws.{position-below}
 use Rattle.record.specs.declared.Record.{Record}
 use Rattle.record.specs.declared.Removal.{Removal}
 use Rattle.record.specs.declared.RemovalStage.{RemovalStage}
@@ -19,14 +20,14 @@ use Rattle.table.specs.declared.search.Searched.the-variants.{Going, Answered}
 use Rattle.table.specs.declared.search.SearchAnswer.the-variants.{Found as SearchAnswer·Found, Unknown}
 use Rattle.table.specs.Answers.{isUnderway, removed}
 use Rattle.table.specs.Search.{searchAdvance}
-use Rattle.table.proofs.SearchLaws.{searchedLeft, searchedInRange, answerInRange, OneStep, search-step}
+use Rattle.table.proofs.SearchLaws.{search-inside, searchedLeft, searchedInRange, answerInRange, OneStep, search-step}
 use Rattle.moves.specs.Memory.{storeWord}
 use Rattle.moves.specs.declared.update.Update.{Update}
 use Rattle.moves.specs.declared.update.Update.the-variants.{Nothing, Uncounted}
 use Rattle.moves.specs.Counts.{largestCounted}
 use Rattle.moves.specs.Moves.{isIdle, ends}
 use Rattle.moves.proofs.CountLaws.{largest-high}
-use Rattle.moves.proofs.MoveLaws.{updateInRange, reachAfter, reachStored, removalLeft, writerLeft, OneMove}
+use Rattle.moves.proofs.MoveLaws.{slotNamed, updateInRange, reachAfter, reachStored, removalLeft, writerLeft, OneMove}
 use Rattle.removal.specs.Removal.{removalStageAccess, removalAccess, removalAt, removalAnswered, removalSearched, isLast, removalEmpties, removalLowers, removalStageAdvance, removalAdvance}
 
 module _ (panel : Record) (removal : Removal) (valid : validPoint (removal .point) ≡ true) where
@@ -88,3 +89,15 @@ module _ (panel : Record) (removal : Removal) (word : ℕ) where
   pub removal-reach : reachAfter (panel .reach) (removalAdvance panel removal word .update) ≡ reachStored (panel .reach) (removalAccess panel removal)
   unfolding removalAdvance removalAccess
   removal-reach = stage-reach (removal .stage)
+
+-- a step reads or stores one of the slots lent
+module _ (panel : Record) (removal : Removal) (low : 1 ≤ panel .m) where
+  stage-inside : (stage : RemovalStage) → slotNamed (removalStageAccess panel removal stage) < panel .m
+  unfolding removalStageAccess storeWord slotNamed
+  stage-inside (Searching search) = search-inside (panel .m) (removal .point) search low
+  stage-inside (RemovalStage·Found place) = position-below (panel .m) (removal .point) (place .index) low
+  stage-inside Lowering = low
+
+  pub removal-inside : slotNamed (removalAccess panel removal) < panel .m
+  unfolding removalAccess
+  removal-inside = stage-inside (removal .stage)

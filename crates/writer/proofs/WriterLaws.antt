@@ -19,15 +19,17 @@ use Rattle.record.specs.Ranges.{validPoint, searchInRange, putStageInRange, put
 use Rattle.record.proofs.Laws.{fields, sizes-in-range, with-writer-in-range}
 use Rattle.table.specs.Answers.{started, isUnderway, Outcome, outcome, unlessRefused}
 use Rattle.table.proofs.AnswerLaws.{unless}
+use Rattle.table.proofs.SearchLaws.{slotRead}
 use Rattle.moves.specs.declared.memory.WriterAccess.{WriterAccess}
 use Rattle.moves.specs.declared.memory.WriterAccess.the-variants.{Read, StoreReach, StoreSlot}
 use Rattle.moves.specs.Memory.{accessRead, slotsAfter}
 use Rattle.moves.specs.Moves.{WriterMove, isIdle, updated}
-use Rattle.moves.proofs.MoveLaws.{updateInRange, updated-in-range, reachAfter, reachStored, Updated, update-leaves, writerLeft, OneMove}
-use Rattle.put.proofs.PutLaws.{put-moves, put-reach}
-use Rattle.change.proofs.ChangeLaws.{change-moves, change-reach}
-use Rattle.removal.proofs.RemovalLaws.{removal-moves, removal-reach}
+use Rattle.moves.proofs.MoveLaws.{slotNamed, updated-in-range, reachAfter, reachStored, Updated, update-leaves, writerLeft, OneMove}
+use Rattle.put.proofs.PutLaws.{put-moves, put-reach, put-inside}
+use Rattle.change.proofs.ChangeLaws.{change-moves, change-reach, change-inside}
+use Rattle.removal.proofs.RemovalLaws.{removal-moves, removal-reach, removal-inside}
 use Rattle.writer.specs.Starts.{startRefusal, startWriter, startPut, startChange, startRemoval}
+use Rattle.writer.specs.WriterFacts.{Does, reads, stores-reach, stores-slot, Keeps}
 use Rattle.writer.specs.Whole.{Begun, writerStep, wholePut, wholeChange, wholeRemoval}
 use Rattle.writer.specs.Step.{writerAccess, writerAdvance, stepRefusal, moved, writerRuns, stepWriter}
 
@@ -142,3 +144,61 @@ module _ (panel : Record) (slots : List ℕ) (point : ℕ) where
   pub removal-begins : Begun (startRemoval panel slots point)
   unfolding startRemoval writerInRange removalInRange removalStageInRange searchInRange isIdle
   removal-begins = start-begins panel slots point _ (λ valid. both-true (validPoint point) true valid refl) refl
+
+writer-inside : (panel : Record) (work : WriterWork) → 1 ≤ panel .m → slotNamed (writerAccess panel work) < panel .m
+unfolding writerAccess slotNamed slotRead
+writer-inside panel Idle low = low
+writer-inside panel (Putting put) low = put-inside (panel .m) (panel .reach) put low
+writer-inside panel (Changing change) low = change-inside (panel .m) change low
+writer-inside panel (Removing removal) low = removal-inside panel removal low
+
+module _ (panel : Record) (slots : List ℕ) where
+  -- m, k, the number of slots and the readers stay
+  pub step-keeps : Keeps panel slots (stepWriter panel slots)
+  unfolding stepWriter writerRuns moved withWriter
+  step-keeps =
+      unless (Keeps panel slots) (stepRefusal (length slots) panel) panel slots _
+      (λ answer. record { length-stays = refl; m-stays = refl; k-stays = refl; readers-stay = refl })
+      (λ e.
+      let leaves = update-leaves panel _ in
+      record {
+        length-stays = slots-length slots (writerAccess panel (panel .writer));
+        m-stays = leaves .m-stays;
+        k-stays = leaves .k-stays;
+        readers-stay = leaves .readers-stay;
+      })
+
+  at-work : stepRefusal (length slots) panel ≡ 0 → (inRange (length slots) panel ≡ true) × (isIdle (panel .writer) ≡ false)
+  unfolding stepRefusal
+  at-work e =
+      let after-1 = not-refused (not (inRange (length slots) panel)) 1 _ (omega arith) e in
+      let after-5 = not-refused (isIdle (panel .writer)) 5 _ (omega arith) (after-1 .1) in
+      (not-false (inRange (length slots) panel) (after-1 .0), after-5 .0)
+
+  pub step-in-range : inRange (length slots) panel ≡ true → inRange (length (stepWriter panel slots .slots)) (stepWriter panel slots .panel) ≡ true
+  unfolding stepWriter
+  step-in-range fits =
+      unless (λ (o : Outcome). inRange (length (o .slots)) (o .panel) ≡ true) (stepRefusal (length slots) panel) panel slots _ (λ answer. fits)
+      (λ e. let w = at-work e in run-in-range panel slots (w .0) (w .1))
+
+  reach-after : writerRuns panel slots (panel .writer) .panel .reach ≡ reachStored (panel .reach) (writerAccess panel (panel .writer))
+  unfolding writerRuns moved withWriter
+  reach-after = update-leaves panel _ .reach-after ∙ writer-reach panel (panel .writer) _
+
+  does : (access : WriterAccess) → slotNamed access < length slots → (after : Outcome) → after .slots ≡ slotsAfter slots access → after .panel .reach ≡ reachStored (panel .reach) access → Does (panel .reach) slots after access
+  unfolding slotsAfter reachStored slotNamed
+  does (Read read) inside after e r = reads e r
+  does (StoreReach new) inside after e r = stores-reach e r
+  does (StoreSlot store) inside after e r =
+      stores-slot inside (ap (λ (l : List ℕ). getD l (store .slot) 0) e ∙ getD-set-same slots (store .slot) (store .word) 0 inside)
+      (λ other h. ap (λ (l : List ℕ). getD l other 0) e ∙ getD-set-other slots (store .slot) other (store .word) 0 h) r
+
+  -- "A step reads or stores exactly one slot, or reads or stores the reach": the one that its access names, and no other
+  pub step-does : stepRefusal (length slots) panel ≡ 0 → Does (panel .reach) slots (stepWriter panel slots) (writerAccess panel (panel .writer))
+  unfolding writerRuns moved
+  step-does e =
+      let w = at-work e in
+      let sizes = sizes-in-range (length slots) panel (w .0) in
+      let inside = writer-inside panel (panel .writer) (sizes .m-low) in
+      transport (λ j. Does (panel .reach) slots (sym (allowed panel slots (w .0) (w .1)) j) (writerAccess panel (panel .writer)))
+      (does (writerAccess panel (panel .writer)) (omega (arith, inside, sizes .whole)) (writerRuns panel slots (panel .writer)) refl reach-after)

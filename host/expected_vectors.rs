@@ -1,14 +1,21 @@
 //! What the program `vectors` has to print, worked out a second time from document 01: the
 //! stored output is compared with this.
 
+mod expected_commands;
 mod expected_disabled;
 mod expected_frames;
 mod expected_fresh;
+mod expected_history;
+mod expected_operations;
 mod expected_ranges;
 mod expected_readers;
+mod expected_unreached;
+mod expected_writer_refusals;
+mod expected_writing;
 mod reference_frame;
 mod reference_record;
 mod reference_table;
+mod reference_writer;
 
 use reference_table::{position, z};
 
@@ -52,4 +59,8 @@ fn main() {
     expected_readers::run();
     expected_ranges::run();
     expected_disabled::run();
+    expected_writing::run();
+    expected_writer_refusals::run();
+    expected_unreached::run();
+    expected_history::run();
 }

@@ -1,0 +1,114 @@
+//! The writer's operations by their steps: each line shows a call's answer, and the reach, the
+//! counts and the slots that it leaves.
+
+use crate::expected_readers::start_answer;
+use crate::reference_record::{Record, Writer};
+use crate::reference_table::{fresh, Refusal};
+use crate::reference_writer::{start_change, start_put, start_removal, step_writer, WriterStep};
+use crate::refused;
+
+/// A record and the slots lent to it.
+#[derive(Clone)]
+pub struct Panel {
+    pub record: Record,
+    pub slots: Vec<u64>,
+}
+
+impl Panel {
+    pub fn fresh(m: u32, k: u32) -> Self {
+        println!("panel {m} {k}");
+        let mut slots = vec![0; m as usize];
+        let record = fresh(&mut slots, m, k).1;
+        Panel { record, slots }
+    }
+
+    fn state(&self) -> String {
+        let slots = spaced(&self.slots);
+        format!("{} slots{slots}", levels(&self.record))
+    }
+
+    /// Shows a record that the program altered, and not the writer.
+    pub fn altered(&self) {
+        println!("altered:{}", self.state());
+    }
+
+    fn begun(&self, call: &str, started: Result<(), Refusal>) {
+        println!("{call}:{}{}", start_answer(started), self.state());
+    }
+
+    pub fn begin_put(&mut self, point: u32, value: u32) {
+        let started = start_put(&mut self.record, &self.slots, point, value);
+        self.begun(&format!("put {point} {value}"), started);
+    }
+
+    pub fn begin_change(&mut self, point: u32, keep: u32, flip: u32) {
+        let started = start_change(&mut self.record, &self.slots, point, keep, flip);
+        self.begun(&format!("change {point} {keep} {flip}"), started);
+    }
+
+    pub fn begin_removal(&mut self, point: u32) {
+        let started = start_removal(&mut self.record, &self.slots, point);
+        self.begun(&format!("removal {point}"), started);
+    }
+
+    /// A step, and its line without its end.
+    pub fn open_step(&mut self) -> String {
+        let answer = writer_answer(step_writer(&mut self.record, &mut self.slots));
+        format!("step:{answer}{}", self.state())
+    }
+
+    pub fn step(&mut self) {
+        println!("{}", self.open_step());
+    }
+
+    pub fn is_idle(&self) -> bool {
+        self.record.writer == Writer::Idle
+    }
+
+    /// The steps to the end of the work underway.
+    pub fn finish(&mut self) {
+        while !self.is_idle() {
+            self.step();
+        }
+    }
+
+    pub fn put(&mut self, point: u32, value: u32) {
+        self.begin_put(point, value);
+        self.finish();
+    }
+
+    pub fn change(&mut self, point: u32, keep: u32, flip: u32) {
+        self.begin_change(point, keep, flip);
+        self.finish();
+    }
+
+    pub fn removal(&mut self, point: u32) {
+        self.begin_removal(point);
+        self.finish();
+    }
+}
+
+fn spaced<T: ToString>(numbers: &[T]) -> String {
+    let each = numbers
+        .iter()
+        .map(|number| " ".to_string() + &number.to_string());
+    each.collect()
+}
+
+/// The reach and the counts of indices 1 to k.
+pub fn levels(record: &Record) -> String {
+    let counts = spaced(&record.counts[..record.k as usize]);
+    format!(" reach {} counts{counts}", record.reach)
+}
+
+fn writer_answer(answer: Result<WriterStep, Refusal>) -> String {
+    match answer {
+        Ok(WriterStep::Underway) => " underway".to_string(),
+        Ok(WriterStep::Put { slot, index }) => format!(" placed {slot} {index}"),
+        Ok(WriterStep::Changed(value)) => format!(" changed {value}"),
+        Ok(WriterStep::Removed(reach)) => format!(" removed {reach}"),
+        Ok(WriterStep::NoPerch) => " ended".to_string() + &refused(6),
+        Ok(WriterStep::Unknown) => " ended".to_string() + &refused(7),
+        Err(refusal) => refused(refusal as u32),
+    }
+}

@@ -56,6 +56,7 @@ module _ (k reach : ℕ) (put : Put) (low : 1 ≤ k) (valid : validPoint (put .p
     where
       high : index ≤ k
       high = within-high 1 index k h
+
       go : (empty below : Bool) → ltb index k ≡ below → OneMove k reach (k - index + 1 + (1 + raising reach k)) (cond empty (putAt put (Chosen index)) (cond below (putAt put (Scanning (index + 1))) (ends Nothing (endedWith 6))))
       go true below e = at-stage _ (Chosen index) h (omega (arith, raising-grows reach index k high))
       go false true e =
@@ -68,8 +69,10 @@ module _ (k reach : ℕ) (put : Put) (low : 1 ≤ k) (valid : validPoint (put .p
     where
       high : index ≤ k
       high = within-high 1 index k h
+
       stage-fits : putStageInRange k (put .stage) ≡ true
       stage-fits = ap (putStageInRange k) e ∙ h
+
       go : (above : Bool) → ltb reach index ≡ above → OneMove k reach (1 + cond above 1 0) (cond above (record { work = Putting put; update = Reach index; answer = underway }) (ends (Counted index) (placed (positionOf m (put .point) index) index)))
       go true f =
           record {

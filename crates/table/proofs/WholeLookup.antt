@@ -45,6 +45,7 @@ walk-idle m walk word = go (ltb (walk .next + 1) m)
   where
     after : Bool → ReaderMove
     after b = cond b (record { work = Walking (record { next = walk .next + 1 }); answer = walked word }) (record { work = Idle; answer = walkedLast word })
+
     go : (b : Bool) → isUnderway (after b .answer) ≡ not (isIdle (after b .work))
     go true = refl
     go false = refl

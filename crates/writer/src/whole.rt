@@ -90,11 +90,7 @@ pub fn whole_change(
     ensures { λ r. ⌜ outcome (r .panel) (now (slots .exit)) (paperWriter (r .answer)) ≡ wholeChange panel (now (slots .entry)) point keep flip ⌝ }
 {
     let budget = panel.k as u64 + 2;
-    run_started(
-        start_change(panel, slots, point, keep, flip),
-        slots,
-        budget,
-    )
+    run_started(start_change(panel, slots, point, keep, flip), slots, budget)
 }
 
 // Removes a point, from the start to the end.

@@ -59,10 +59,12 @@ loop-again c =
     let s = now (a .slots) in
     let l = c .before .before .before .before .before .loop in
     let step = readerStep (a .reader) in
-    let before = outcome (l .after .panel) s (paperReader (l .after .answer)) in
-    (sym (c .before .goes-on .ensures) ∙ not-false _ (c .if1 .left), ap (untilEnded step (l .left - 1)) (c .before .before .step-reader .ensures)
-    ∙ sym (one-step step (l .left) before (omega (arith, c .before .before .before .before .loop-test)) (l .inv .0))
-    ∙ l .inv .1)
+    let before = outcome (l .after .panel) s (paperReader (l .after .answer)) in (
+      sym (c .before .goes-on .ensures) ∙ not-false _ (c .if1 .left),
+      ap (untilEnded step (l .left - 1)) (c .before .before .step-reader .ensures)
+          ∙ sym (one-step step (l .left) before (omega (arith, c .before .before .before .before .loop-test)) (l .inv .0))
+          ∙ l .inv .1,
+    )
 
 returns-2 : tie.Need-returns-2 Inv-loop μ-loop
 returns-2 c =

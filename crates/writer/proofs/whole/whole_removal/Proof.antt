@@ -23,7 +23,7 @@ start-removal-requires c κs = search needs
 run-started-requires : tie.Need-run-started-requires
 run-started-requires c κs =
     let a = c .before .before .before .before .before .args in
-    (omega arith, transport (λ j. Begun (sym (c .before .start-removal .ensures) j)) (removal-begins (a .panel) (now (a .slots)) (a .point) ))
+    (omega arith, transport (λ j. Begun (sym (c .before .start-removal .ensures) j)) (removal-begins (a .panel) (now (a .slots)) (a .point)))
 
 same-length : tie.Need-same-length
 same-length c = search needs

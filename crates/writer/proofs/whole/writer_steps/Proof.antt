@@ -70,14 +70,13 @@ loop-again c =
     let before = outcome (l .after .panel) (l .slots) (paperWriter (l .after .answer)) in
     let working = works before (l .inv .1) (l .inv .2) in
     let ran = c .before .before .before .before .run-step .ensures in
-    let step = ran ∙ sym (allowed (l .after .panel) (l .slots) (l .inv .1 .fits) working) in
-    (
+    let step = ran ∙ sym (allowed (l .after .panel) (l .slots) (l .inv .1 .fits) working) in (
       ap (λ (o : Outcome). length (o .slots)) ran ∙ run-length (l .after .panel) (l .slots) ∙ l .inv .0,
       transport (λ j. AtWork (sym ran j)) (run-at-work (l .after .panel) (l .slots) (l .inv .1 .fits) working),
       sym (c .before .goes-on .ensures) ∙ not-false _ (c .if1 .left),
       ap (untilEnded writerStep (l .left - 1)) step
-    ∙ sym (one-step writerStep (l .left) before (omega (arith, c .before .before .before .before .before .before .before .loop-test)) (l .inv .2))
-    ∙ l .inv .3,
+          ∙ sym (one-step writerStep (l .left) before (omega (arith, c .before .before .before .before .before .before .before .loop-test)) (l .inv .2))
+          ∙ l .inv .3,
     )
 
 same-length-2 : tie.Need-same-length-2 Inv-loop μ-loop

@@ -35,7 +35,7 @@ pub fn put_access(put: Put, m: u32, reach: u32) -> WriterAccess
         }
         PutStage::Found(place) => store_word(m, point, place.index, word),
         PutStage::Chosen(index) => {
-            if reach < index {
+            if index > reach {
                 WriterAccess::StoreReach(index)
             } else {
                 store_word(m, point, index, word)

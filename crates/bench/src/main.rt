@@ -4,6 +4,7 @@ mod input;
 mod output;
 mod printing;
 
+use answers::FreshAnswer;
 use commands::Session;
 use commands::run_line;
 use input::Part;
@@ -13,7 +14,6 @@ use input::next_part;
 use input::read;
 use line::Line;
 use line::SizesLine;
-use table::FreshAnswer;
 use table::fresh;
 
 fn main() {

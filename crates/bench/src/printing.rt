@@ -2,9 +2,9 @@
 use crate::output::line_end;
 use crate::output::number;
 use crate::output::text;
+use answers::ReaderAnswer;
+use answers::WriterAnswer;
 use refusal::Refusal;
-use table::ReaderAnswer;
-use table::WriterAnswer;
 
 pub(crate) fn panel(filled: usize, out: &mut [u8], m: u32, k: u32) -> usize {
     let named = text(filled, out, b"panel");

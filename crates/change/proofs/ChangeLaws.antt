@@ -19,12 +19,12 @@ use Rattle.record.specs.declared.CommandAnswer.{CommandAnswer}
 use Rattle.record.specs.declared.CommandAnswer.the-variants.{Value, Unknown as CommandAnswer·Unknown}
 use Rattle.record.specs.declared.WriterWork.the-variants.{Changing}
 use Rattle.record.specs.Ranges.{validPoint, alterationInRange, commandInRange, stationInRange, changeStageInRange, changeInRange, writerInRange}
-use Rattle.table.specs.declared.search.Searched.{Searched}
-use Rattle.table.specs.declared.search.Searched.the-variants.{Going, Answered}
-use Rattle.table.specs.declared.search.SearchAnswer.the-variants.{Found as SearchAnswer·Found, Unknown}
-use Rattle.table.specs.Answers.{isUnderway}
-use Rattle.table.specs.Search.{searchAdvance}
-use Rattle.table.proofs.SearchLaws.{search-inside, searchedLeft, searchedInRange, answerInRange, OneStep, search-step}
+use Rattle.search.specs.declared.Searched.{Searched}
+use Rattle.search.specs.declared.Searched.the-variants.{Going, Answered}
+use Rattle.search.specs.declared.SearchAnswer.the-variants.{Found as SearchAnswer·Found, Unknown}
+use Rattle.answers.specs.Answers.{isUnderway}
+use Rattle.search.specs.Search.{searchAdvance}
+use Rattle.search.proofs.SearchLaws.{search-inside, searchedLeft, searchedInRange, answerInRange, OneStep, search-step}
 use Rattle.moves.specs.Memory.{storeWord}
 use Rattle.moves.specs.Moves.{isIdle, goesOn, ends}
 use Rattle.moves.proofs.MoveLaws.{slotNamed, updateInRange, reachAfter, reachStored, changeLeft, writerLeft, OneMove}

@@ -13,13 +13,13 @@ use Rattle.record.specs.declared.CommandAnswer.the-variants.{Value, Unknown as 
 use Rattle.record.specs.declared.Masks.{Masks}
 use Rattle.record.specs.declared.Place.{Place}
 use Rattle.record.specs.declared.WriterWork.the-variants.{Changing}
-use Rattle.table.specs.declared.search.Searched.{Searched}
-use Rattle.table.specs.declared.search.Searched.the-variants.{Going, Answered as Searched·Answered}
-use Rattle.table.specs.declared.search.SearchAnswer.{SearchAnswer}
-use Rattle.table.specs.declared.search.SearchAnswer.the-variants.{Found as SearchAnswer·Found, Unknown as SearchAnswer·Unknown}
-use Rattle.table.specs.Answers.{changed, endedWith}
-use Rattle.table.specs.Word.{wordOf}
-use Rattle.table.specs.Search.{searchAccess, searchAdvance}
+use Rattle.search.specs.declared.Searched.{Searched}
+use Rattle.search.specs.declared.Searched.the-variants.{Going, Answered as Searched·Answered}
+use Rattle.search.specs.declared.SearchAnswer.{SearchAnswer}
+use Rattle.search.specs.declared.SearchAnswer.the-variants.{Found as SearchAnswer·Found, Unknown as SearchAnswer·Unknown}
+use Rattle.answers.specs.Answers.{changed, endedWith}
+use Rattle.search.specs.Word.{wordOf}
+use Rattle.search.specs.Search.{searchAccess, searchAdvance}
 use Rattle.moves.specs.declared.memory.WriterAccess.{WriterAccess}
 use Rattle.moves.specs.declared.memory.WriterAccess.the-variants.{Read}
 use Rattle.moves.specs.declared.update.Update.{Update}

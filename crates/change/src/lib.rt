@@ -3,6 +3,7 @@
 ghost use mathlib.Core.Path.{_≡_};
 ghost use Rattle.moves.specs.Moves.{paperMoved};
 ghost use Rattle.change.specs.Change.{actionMasks, masksOf, newValue, changeAccess, commandEnds, changeAt, changeSearched, changeAnswered, changeStores, changeAdvance};
+use answers::WriterAnswer;
 use moves::memory::WriterAccess;
 use moves::memory::store_word;
 use moves::update::LastCommand;
@@ -18,12 +19,11 @@ use record::Masks;
 use record::Place;
 use record::Station;
 use record::WriterWork;
-use table::WriterAnswer;
-use table::search::SearchAnswer;
-use table::search::Searched;
-use table::search::search_access;
-use table::search::search_advance;
-use table::word::word_of;
+use search::SearchAnswer;
+use search::Searched;
+use search::search_access;
+use search::search_advance;
+use search::word::word_of;
 
 // Action 0 clears bit 0, 1 sets it, 2 toggles it.
 fn action_masks(action: u32) -> Masks

@@ -23,8 +23,8 @@ use Rattle.record.specs.declared.WriterWork.the-variants.{Idle, Putting, Changi
 use Rattle.record.specs.Parts.{withReach, withCount, withStation, countOf}
 use Rattle.record.specs.Ranges.{stationInRange, writerInRange, inRange}
 use Rattle.record.proofs.Laws.{with-reach-in-range, with-count-in-range, with-station-in-range, count-in-range}
-use Rattle.table.specs.Answers.{isUnderway}
-use Rattle.table.proofs.SearchLaws.{searchLeft, slotRead}
+use Rattle.answers.specs.Answers.{isUnderway}
+use Rattle.search.proofs.SearchLaws.{searchLeft, slotRead}
 use Rattle.moves.specs.declared.memory.WriterAccess.{WriterAccess}
 use Rattle.moves.specs.declared.memory.WriterAccess.the-variants.{Read, StoreReach, StoreSlot}
 use Rattle.moves.specs.declared.update.Update.{Update}

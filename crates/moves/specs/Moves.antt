@@ -4,7 +4,7 @@ use Rattle.record.specs.declared.Record.{Record}
 use Rattle.record.specs.declared.WriterWork.{WriterWork}
 use Rattle.record.specs.declared.WriterWork.the-variants.{Idle, Putting, Changing, Removing}
 use Rattle.record.specs.Parts.{withReach, withStation}
-use Rattle.table.specs.Answers.{Answer, underway, paperWriter}
+use Rattle.answers.specs.Answers.{Answer, underway, paperWriter}
 use Rattle.moves.specs.declared.update.Moved.{Moved}
 use Rattle.moves.specs.declared.update.Update.{Update}
 use Rattle.moves.specs.declared.update.Update.the-variants.{Nothing, Reach, Counted, Uncounted, Answered}

@@ -2,8 +2,8 @@
 ghost use mathlib.Core.Path.{_≡_};
 ghost use lib.ListN.{set};
 ghost use Rattle.moves.specs.Memory.{storeWord, accessRead, slotsAfter};
-use table::access::ReadAccess;
-use table::access::word_read;
+use search::access::ReadAccess;
+use search::access::word_read;
 
 // What a step of the writer touches.
 pub enum WriterAccess {

@@ -2,15 +2,15 @@
 // answer.
 ghost use mathlib.Core.Path.{_≡_};
 ghost use Rattle.moves.specs.Moves.{updated, goesOn, ends, paperMoved};
-ghost use Rattle.table.specs.Answers.{paperWriter};
+ghost use Rattle.answers.specs.Answers.{paperWriter};
 use crate::counts::with_counted;
 use crate::counts::with_uncounted;
+use answers::WriterAnswer;
 use record::Record;
 use record::Station;
 use record::WriterWork;
 use record::parts::with_reach;
 use record::parts::with_station;
-use table::WriterAnswer;
 
 pub struct Moved {
     pub work: WriterWork,

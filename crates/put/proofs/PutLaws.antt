@@ -18,13 +18,13 @@ use Rattle.record.specs.declared.PutStage.{PutStage}
 use Rattle.record.specs.declared.PutStage.the-variants.{Searching, Scanning, Found as PutStage·Found, Chosen}
 use Rattle.record.specs.declared.WriterWork.the-variants.{Putting}
 use Rattle.record.specs.Ranges.{validPoint, putStageInRange, putInRange, writerInRange}
-use Rattle.table.specs.declared.search.Searched.{Searched}
-use Rattle.table.specs.declared.search.Searched.the-variants.{Going, Answered}
-use Rattle.table.specs.declared.search.SearchAnswer.the-variants.{Found as SearchAnswer·Found, Unknown}
-use Rattle.table.specs.Answers.{isUnderway, underway, placed, endedWith}
-use Rattle.table.specs.Word.{wordOf}
-use Rattle.table.specs.Search.{searchAdvance}
-use Rattle.table.proofs.SearchLaws.{slotRead, search-inside, searchLeft, searchedLeft, searchedInRange, answerInRange, OneStep, first-step, probe-step}
+use Rattle.search.specs.declared.Searched.{Searched}
+use Rattle.search.specs.declared.Searched.the-variants.{Going, Answered}
+use Rattle.search.specs.declared.SearchAnswer.the-variants.{Found as SearchAnswer·Found, Unknown}
+use Rattle.answers.specs.Answers.{isUnderway, underway, placed, endedWith}
+use Rattle.search.specs.Word.{wordOf}
+use Rattle.search.specs.Search.{searchAdvance}
+use Rattle.search.proofs.SearchLaws.{slotRead, search-inside, searchLeft, searchedLeft, searchedInRange, answerInRange, OneStep, first-step, probe-step}
 use Rattle.moves.specs.declared.memory.WriterAccess.the-variants.{StoreReach}
 use Rattle.moves.specs.Memory.{storeWord}
 use Rattle.moves.specs.declared.update.Update.the-variants.{Nothing, Reach, Counted}

@@ -7,14 +7,14 @@ use Rattle.record.specs.declared.Put.{Put}
 use Rattle.record.specs.declared.PutStage.{PutStage}
 use Rattle.record.specs.declared.PutStage.the-variants.{Searching, Scanning, Found as PutStage·Found, Chosen}
 use Rattle.record.specs.declared.WriterWork.the-variants.{Putting}
-use Rattle.table.specs.declared.access.ReadAccess.the-variants.{Slot}
-use Rattle.table.specs.declared.search.Searched.{Searched}
-use Rattle.table.specs.declared.search.Searched.the-variants.{Going, Answered}
-use Rattle.table.specs.declared.search.SearchAnswer.{SearchAnswer}
-use Rattle.table.specs.declared.search.SearchAnswer.the-variants.{Found as SearchAnswer·Found, Unknown}
-use Rattle.table.specs.Answers.{underway, placed, endedWith}
-use Rattle.table.specs.Word.{wordOf}
-use Rattle.table.specs.Search.{searchAccess, searchAdvance}
+use Rattle.search.specs.declared.access.ReadAccess.the-variants.{Slot}
+use Rattle.search.specs.declared.Searched.{Searched}
+use Rattle.search.specs.declared.Searched.the-variants.{Going, Answered}
+use Rattle.search.specs.declared.SearchAnswer.{SearchAnswer}
+use Rattle.search.specs.declared.SearchAnswer.the-variants.{Found as SearchAnswer·Found, Unknown}
+use Rattle.answers.specs.Answers.{underway, placed, endedWith}
+use Rattle.search.specs.Word.{wordOf}
+use Rattle.search.specs.Search.{searchAccess, searchAdvance}
 use Rattle.moves.specs.declared.memory.WriterAccess.{WriterAccess}
 use Rattle.moves.specs.declared.memory.WriterAccess.the-variants.{Read, StoreReach}
 use Rattle.moves.specs.declared.update.Update.the-variants.{Nothing, Reach, Counted}

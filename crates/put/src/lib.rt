@@ -3,6 +3,8 @@
 ghost use mathlib.Core.Path.{_≡_};
 ghost use Rattle.moves.specs.Moves.{paperMoved};
 ghost use Rattle.put.specs.Put.{putAccess, putAt, putSearched, putAnswered, putScanned, putTakes, putAdvance};
+use answers::Spot;
+use answers::WriterAnswer;
 use moves::memory::WriterAccess;
 use moves::memory::store_word;
 use moves::update::Moved;
@@ -12,14 +14,12 @@ use moves::update::underway;
 use record::Put;
 use record::PutStage;
 use record::WriterWork;
-use table::Spot;
-use table::WriterAnswer;
-use table::access::ReadAccess;
-use table::search::SearchAnswer;
-use table::search::Searched;
-use table::search::search_access;
-use table::search::search_advance;
-use table::word::word_of;
+use search::SearchAnswer;
+use search::Searched;
+use search::access::ReadAccess;
+use search::search_access;
+use search::search_advance;
+use search::word::word_of;
 
 // Part 1: the access that comes next.
 pub fn put_access(put: Put, m: u32, reach: u32) -> WriterAccess

@@ -1,9 +1,9 @@
 // Readers at work, for a benchmark from outside: 16 or 4096 slots by the first letter of standard
 // input, S or L, and 10 to the power of the digit behind it turns. Prints the steps made and a sum of
 // what they answered.
+use answers::ReaderAnswer;
 use record::Record;
 use record::parts::fresh_record;
-use table::ReaderAnswer;
 use table::start_lookup;
 use table::start_walk;
 use table::step_reader;

@@ -15,12 +15,12 @@ use Rattle.record.specs.declared.RemovalStage.{RemovalStage}
 use Rattle.record.specs.declared.RemovalStage.the-variants.{Searching, Found as RemovalStage·Found, Lowering}
 use Rattle.record.specs.declared.WriterWork.the-variants.{Removing}
 use Rattle.record.specs.Ranges.{validPoint, removalStageInRange, removalInRange, writerInRange}
-use Rattle.table.specs.declared.search.Searched.{Searched}
-use Rattle.table.specs.declared.search.Searched.the-variants.{Going, Answered}
-use Rattle.table.specs.declared.search.SearchAnswer.the-variants.{Found as SearchAnswer·Found, Unknown}
-use Rattle.table.specs.Answers.{isUnderway, removed}
-use Rattle.table.specs.Search.{searchAdvance}
-use Rattle.table.proofs.SearchLaws.{search-inside, searchedLeft, searchedInRange, answerInRange, OneStep, search-step}
+use Rattle.search.specs.declared.Searched.{Searched}
+use Rattle.search.specs.declared.Searched.the-variants.{Going, Answered}
+use Rattle.search.specs.declared.SearchAnswer.the-variants.{Found as SearchAnswer·Found, Unknown}
+use Rattle.answers.specs.Answers.{isUnderway, removed}
+use Rattle.search.specs.Search.{searchAdvance}
+use Rattle.search.proofs.SearchLaws.{search-inside, searchedLeft, searchedInRange, answerInRange, OneStep, search-step}
 use Rattle.moves.specs.Memory.{storeWord}
 use Rattle.moves.specs.declared.update.Update.{Update}
 use Rattle.moves.specs.declared.update.Update.the-variants.{Nothing, Uncounted}

@@ -9,12 +9,12 @@ use Rattle.record.specs.declared.RemovalStage.{RemovalStage}
 use Rattle.record.specs.declared.RemovalStage.the-variants.{Searching, Found as RemovalStage·Found, Lowering}
 use Rattle.record.specs.declared.WriterWork.the-variants.{Removing}
 use Rattle.record.specs.Parts.{countOf}
-use Rattle.table.specs.declared.search.Searched.{Searched}
-use Rattle.table.specs.declared.search.Searched.the-variants.{Going, Answered}
-use Rattle.table.specs.declared.search.SearchAnswer.{SearchAnswer}
-use Rattle.table.specs.declared.search.SearchAnswer.the-variants.{Found as SearchAnswer·Found, Unknown}
-use Rattle.table.specs.Answers.{underway, removed, endedWith}
-use Rattle.table.specs.Search.{searchAccess, searchAdvance}
+use Rattle.search.specs.declared.Searched.{Searched}
+use Rattle.search.specs.declared.Searched.the-variants.{Going, Answered}
+use Rattle.search.specs.declared.SearchAnswer.{SearchAnswer}
+use Rattle.search.specs.declared.SearchAnswer.the-variants.{Found as SearchAnswer·Found, Unknown}
+use Rattle.answers.specs.Answers.{underway, removed, endedWith}
+use Rattle.search.specs.Search.{searchAccess, searchAdvance}
 use Rattle.moves.specs.declared.memory.WriterAccess.{WriterAccess}
 use Rattle.moves.specs.declared.memory.WriterAccess.the-variants.{Read, StoreReach}
 use Rattle.moves.specs.declared.update.Update.{Update}

@@ -3,6 +3,7 @@
 ghost use mathlib.Core.Path.{_≡_};
 ghost use Rattle.moves.specs.Moves.{paperMoved};
 ghost use Rattle.removal.specs.Removal.{removalAccess, removalAt, removalSearched, removalAnswered, isLast, removalEmpties, removalLowers, removalAdvance};
+use answers::WriterAnswer;
 use moves::counts::largest_counted;
 use moves::counts::with_uncounted;
 use moves::memory::WriterAccess;
@@ -17,11 +18,10 @@ use record::RemovalStage;
 use record::WriterWork;
 use record::parts::count_of;
 use refusal::tests::both_hold;
-use table::WriterAnswer;
-use table::search::SearchAnswer;
-use table::search::Searched;
-use table::search::search_access;
-use table::search::search_advance;
+use search::SearchAnswer;
+use search::Searched;
+use search::search_access;
+use search::search_advance;
 
 // Part 1: the access that comes next.
 pub fn removal_access(panel: Record, removal: Removal) -> WriterAccess

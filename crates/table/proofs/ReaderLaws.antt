@@ -19,15 +19,15 @@ use Rattle.record.specs.declared.ReaderWork.the-variants.{Idle, LookingUp, Walk
 use Rattle.record.specs.Parts.{workOf, withWork}
 use Rattle.record.specs.Ranges.{validPoint, searchInRange, lookupInRange, workInRange, inRange}
 use Rattle.record.proofs.Laws.{fields, sizes-in-range, work-in-range, with-work-in-range, others-stay}
-use Rattle.table.specs.declared.access.ReadAccess.the-variants.{Slot}
-use Rattle.table.specs.declared.search.Searched.{Searched}
-use Rattle.table.specs.declared.search.Searched.the-variants.{Going, Answered}
-use Rattle.table.specs.Answers.{Answer, started, walked, walkedLast, Outcome, outcome}
+use Rattle.search.specs.declared.access.ReadAccess.the-variants.{Slot}
+use Rattle.search.specs.declared.Searched.{Searched}
+use Rattle.search.specs.declared.Searched.the-variants.{Going, Answered}
+use Rattle.answers.specs.Answers.{Answer, started, walked, walkedLast, Outcome, outcome}
 use Rattle.table.specs.Reader.{readerAccess, ReaderMove, lookupMove, lookupAdvance, walkAdvance, readerAdvance, moved, readerRuns, stepRefusal, stepReader}
 use Rattle.table.specs.Starts.{lookupRefusal, startReader, startLookup, startWalk}
 use Rattle.table.specs.ReaderFacts.{OnlyWorkOf, Met, workAfter, ReachWithin, at-end, at-step}
-use Rattle.table.proofs.AnswerLaws.{unless}
-use Rattle.table.proofs.SearchLaws.{searchLeft, searchedLeft, searchedInRange, OneStep, search-step, slotRead, search-inside}
+use Rattle.answers.proofs.AnswerLaws.{unless}
+use Rattle.search.proofs.SearchLaws.{searchLeft, searchedLeft, searchedInRange, OneStep, search-step, slotRead, search-inside}
 
 module _ (reader : ℕ) (panel : Record) (slots : List ℕ) where
   untouched : (answer : Answer) → OnlyWorkOf reader panel slots (outcome panel slots answer)

@@ -5,7 +5,7 @@ use Prim.Native.Nat.{ℕ, zero, suc, _+_, _-_, _≤_}
 use mathlib.Core.Path.{_≡_, refl, ap, _∙_, sym}
 use mathlib.Core.Bool.{Bool, true, false, cond}
 use native.Mathlib.Omega.{arith}
-use Rattle.table.specs.Answers.{isUnderway, Outcome}
+use Rattle.answers.specs.Answers.{isUnderway, Outcome}
 use Rattle.table.specs.Whole.{untilEnded}
 
 module _ (step : Outcome → Outcome) where

@@ -5,7 +5,7 @@ use mathlib.Core.List.{List, []}
 use lib.ListN.{length, replicate}
 use Rattle.record.specs.Parts.{freshRecord}
 use Rattle.record.specs.Ranges.{sizesInRange}
-use Rattle.table.specs.Answers.{gives, refused, Outcome, outcome}
+use Rattle.answers.specs.Answers.{gives, refused, Outcome, outcome}
 
 -- making a fresh record
 unfoldable pub makeFresh : ℕ → ℕ → List ℕ → Outcome

@@ -12,16 +12,16 @@ use Rattle.record.specs.declared.ReaderWork.{ReaderWork}
 use Rattle.record.specs.declared.ReaderWork.the-variants.{Idle, LookingUp, Walking}
 use Rattle.record.specs.Parts.{workOf, withWork}
 use Rattle.record.specs.Ranges.{inRange}
-use Rattle.table.specs.declared.access.ReadAccess.{ReadAccess}
-use Rattle.table.specs.declared.access.ReadAccess.the-variants.{Nothing, Slot}
-use Rattle.table.specs.declared.search.Searched.{Searched}
-use Rattle.table.specs.declared.search.Searched.the-variants.{Going, Answered}
-use Rattle.table.specs.declared.search.SearchAnswer.{SearchAnswer}
-use Rattle.table.specs.declared.search.SearchAnswer.the-variants.{Found, Unknown}
+use Rattle.search.specs.declared.access.ReadAccess.{ReadAccess}
+use Rattle.search.specs.declared.access.ReadAccess.the-variants.{Nothing, Slot}
+use Rattle.search.specs.declared.Searched.{Searched}
+use Rattle.search.specs.declared.Searched.the-variants.{Going, Answered}
+use Rattle.search.specs.declared.SearchAnswer.{SearchAnswer}
+use Rattle.search.specs.declared.SearchAnswer.the-variants.{Found, Unknown}
 use Rattle.table.specs.declared.reader.Moved.{Moved}
-use Rattle.table.specs.Answers.{Answer, underway, lookedUp, endedWith, walked, walkedLast, refused, Outcome, outcome, unlessRefused, paperReader}
-use Rattle.table.specs.Access.{wordRead}
-use Rattle.table.specs.Search.{searchAccess, searchAdvance}
+use Rattle.answers.specs.Answers.{Answer, underway, lookedUp, endedWith, walked, walkedLast, refused, Outcome, outcome, unlessRefused, paperReader}
+use Rattle.search.specs.Access.{wordRead}
+use Rattle.search.specs.Search.{searchAccess, searchAdvance}
 
 -- "A reader is idle, looking up or walking"
 unfoldable pub isIdle : ReaderWork → Bool

@@ -6,7 +6,7 @@ use mathlib.Core.Logic.{_≢_}
 use Rattle.record.specs.declared.Record.{Record}
 use Rattle.record.specs.declared.ReaderWork.{ReaderWork}
 use Rattle.record.specs.Parts.{workOf}
-use Rattle.table.specs.Answers.{Outcome}
+use Rattle.answers.specs.Answers.{Outcome}
 use Rattle.table.specs.Reader.{readerAdvance}
 
 -- nothing but one reader's work has changed: not the slots, nor any other part of the record

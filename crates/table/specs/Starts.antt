@@ -11,7 +11,7 @@ use Rattle.record.specs.declared.ReaderWork.the-variants.{LookingUp, Walking}
 use Rattle.record.specs.declared.Search.the-variants.{Unread}
 use Rattle.record.specs.Parts.{workOf, withWork}
 use Rattle.record.specs.Ranges.{inRange, validPoint}
-use Rattle.table.specs.Answers.{started, Outcome, outcome, unlessRefused}
+use Rattle.answers.specs.Answers.{started, Outcome, outcome, unlessRefused}
 use Rattle.table.specs.Reader.{isIdle}
 
 -- "starting a lookup 1, 3, 2, 4"

@@ -3,7 +3,7 @@ use Prim.Native.Nat.{ℕ, zero, suc, _+_}
 use mathlib.Core.Bool.{cond}
 use mathlib.Core.List.{List}
 use Rattle.record.specs.declared.Record.{Record}
-use Rattle.table.specs.Answers.{isUnderway, Outcome}
+use Rattle.answers.specs.Answers.{isUnderway, Outcome}
 use Rattle.table.specs.Reader.{stepReader}
 use Rattle.table.specs.Starts.{startLookup}
 

@@ -1,9 +1,9 @@
 // The beginning of a panel.
 ghost use mathlib.Core.Path.{_≡_};
 ghost use lib.ListN.{length, replicate};
-ghost use Rattle.table.specs.Answers.{paperFresh, outcome};
+ghost use Rattle.answers.specs.Answers.{paperFresh, outcome};
 ghost use Rattle.table.specs.FreshPanel.{makeFresh};
-use crate::answers::FreshAnswer;
+use answers::FreshAnswer;
 use record::Record;
 use record::parts::fresh_record;
 use record::ranges::are_sizes_in_range;

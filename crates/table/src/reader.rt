@@ -1,16 +1,10 @@
 // A reader's step.
 ghost use mathlib.Core.Path.{_≡_};
 ghost use Rattle.refusal.specs.Refusals.{paperJudged};
-ghost use Rattle.table.specs.Answers.{paperReader, outcome};
+ghost use Rattle.answers.specs.Answers.{paperReader, outcome};
 ghost use Rattle.table.specs.Reader.{isIdle, readerAccess, paperMoved, lookupAnswer, lookupAdvance, walkAdvance, readerAdvance, stepRefusal, stepReader};
 ghost use Rattle.record.specs.Parts.{withWork};
-use crate::access::ReadAccess;
-use crate::access::word_read;
-use crate::answers::ReaderAnswer;
-use crate::search::SearchAnswer;
-use crate::search::Searched;
-use crate::search::search_access;
-use crate::search::search_advance;
+use answers::ReaderAnswer;
 use record::Lookup;
 use record::ReaderWork;
 use record::Record;
@@ -20,6 +14,12 @@ use record::parts::work_of;
 use record::ranges::is_in_range;
 use refusal::Judged;
 use refusal::Refusal;
+use search::SearchAnswer;
+use search::Searched;
+use search::access::ReadAccess;
+use search::access::word_read;
+use search::search_access;
+use search::search_advance;
 
 // What a reader's step leaves: the record, and the answer.
 pub struct ReaderOutcome {

@@ -1,10 +1,10 @@
 // The calls that start an operation. A start takes no step.
 ghost use mathlib.Core.Path.{_≡_};
 ghost use Rattle.refusal.specs.Refusals.{paperJudged};
-ghost use Rattle.table.specs.Answers.{paperStart, outcome};
+ghost use Rattle.answers.specs.Answers.{paperStart, outcome};
 ghost use Rattle.table.specs.Starts.{lookupRefusal, walkRefusal, startReader, startLookup, startWalk};
-use crate::answers::StartAnswer;
 use crate::reader::has_no_work;
+use answers::StartAnswer;
 use record::Lookup;
 use record::ReaderWork;
 use record::Record;

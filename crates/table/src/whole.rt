@@ -1,12 +1,12 @@
 // A whole lookup, for a caller with nothing to do in between.
 ghost use mathlib.Core.Path.{_≡_};
-ghost use Rattle.table.specs.Answers.{paperReader, isUnderway, outcome, underway};
+ghost use Rattle.answers.specs.Answers.{paperReader, isUnderway, outcome, underway};
 ghost use Rattle.table.specs.Whole.{untilEnded, readerStep, wholeLookup};
-use crate::answers::ReaderAnswer;
-use crate::answers::StartAnswer;
 use crate::reader::ReaderOutcome;
 use crate::reader::step_reader;
 use crate::starts::start_lookup;
+use answers::ReaderAnswer;
+use answers::StartAnswer;
 use record::Record;
 
 fn goes_on(answer: ReaderAnswer) -> bool

@@ -4,12 +4,12 @@ use crate::printing::number;
 use crate::printing::refused;
 use crate::printing::text;
 use crate::readers::word_of;
+use answers::DisplayAnswer;
+use answers::TotalAnswer;
+use disabled_points::disabled_point;
+use disabled_points::disabled_total;
 use record::Record;
 use record::parts::fresh_record;
-use table::DisplayAnswer;
-use table::TotalAnswer;
-use table::disabled_point;
-use table::disabled_total;
 
 pub(crate) fn run() {
     none();

@@ -4,7 +4,7 @@ use crate::printing::number;
 use crate::printing::refused;
 use crate::printing::text;
 use crate::printing::word;
-use table::FreshAnswer;
+use answers::FreshAnswer;
 
 pub(crate) fn run() {
     fresh(3, 4, 4);

@@ -16,9 +16,9 @@ use Rattle.record.specs.declared.WriterWork.{WriterWork}
 use Rattle.record.specs.declared.WriterWork.the-variants.{Putting, Changing, Removing}
 use Rattle.record.specs.Parts.{withWriter}
 use Rattle.record.specs.Ranges.{inRange}
-use Rattle.table.specs.Answers.{started, refused, isUnderway, Outcome, outcome, unlessRefused}
+use Rattle.answers.specs.Answers.{started, refused, isUnderway, Outcome, outcome, unlessRefused}
 use Rattle.table.specs.Whole.{untilEnded}
-use Rattle.table.proofs.SearchLaws.{searchLeft}
+use Rattle.search.proofs.SearchLaws.{searchLeft}
 use Rattle.table.proofs.WholeLaws.{budget-suffices, has-ended}
 use Rattle.moves.specs.Moves.{isIdle}
 use Rattle.moves.proofs.MoveLaws.{putSearchLeft, putLeft, changeLeft, removalLeft, writerLeft}

@@ -17,9 +17,9 @@ use Rattle.record.specs.declared.WriterWork.the-variants.{Idle, Putting, Changi
 use Rattle.record.specs.Parts.{withWriter}
 use Rattle.record.specs.Ranges.{validPoint, searchInRange, putStageInRange, putInRange, alterationInRange, changeStageInRange, changeInRange, removalStageInRange, removalInRange, writerInRange, inRange}
 use Rattle.record.proofs.Laws.{fields, sizes-in-range, with-writer-in-range}
-use Rattle.table.specs.Answers.{started, isUnderway, Outcome, outcome, unlessRefused}
-use Rattle.table.proofs.AnswerLaws.{unless}
-use Rattle.table.proofs.SearchLaws.{slotRead}
+use Rattle.answers.specs.Answers.{started, isUnderway, Outcome, outcome, unlessRefused}
+use Rattle.answers.proofs.AnswerLaws.{unless}
+use Rattle.search.proofs.SearchLaws.{slotRead}
 use Rattle.moves.specs.declared.memory.WriterAccess.{WriterAccess}
 use Rattle.moves.specs.declared.memory.WriterAccess.the-variants.{Read, StoreReach, StoreSlot}
 use Rattle.moves.specs.Memory.{accessRead, slotsAfter}

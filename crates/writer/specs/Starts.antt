@@ -14,7 +14,7 @@ use Rattle.record.specs.declared.WriterWork.{WriterWork}
 use Rattle.record.specs.declared.WriterWork.the-variants.{Putting, Changing, Removing}
 use Rattle.record.specs.Parts.{withWriter}
 use Rattle.record.specs.Ranges.{validPoint, inRange}
-use Rattle.table.specs.Answers.{started, Outcome, outcome, unlessRefused}
+use Rattle.answers.specs.Answers.{started, Outcome, outcome, unlessRefused}
 use Rattle.moves.specs.Moves.{isIdle}
 
 -- "put, change, remove 1, 2, 4"

@@ -9,8 +9,8 @@ use Rattle.record.specs.declared.WriterWork.{WriterWork}
 use Rattle.record.specs.declared.WriterWork.the-variants.{Idle, Putting, Changing, Removing}
 use Rattle.record.specs.Parts.{withWriter}
 use Rattle.record.specs.Ranges.{inRange}
-use Rattle.table.specs.declared.access.ReadAccess.the-variants.{Nothing as ReadAccess·Nothing}
-use Rattle.table.specs.Answers.{refused, Outcome, outcome, unlessRefused}
+use Rattle.search.specs.declared.access.ReadAccess.the-variants.{Nothing as ReadAccess·Nothing}
+use Rattle.answers.specs.Answers.{refused, Outcome, outcome, unlessRefused}
 use Rattle.moves.specs.declared.memory.WriterAccess.{WriterAccess}
 use Rattle.moves.specs.declared.memory.WriterAccess.the-variants.{Read}
 use Rattle.moves.specs.declared.update.Update.the-variants.{Nothing as Update·Nothing}

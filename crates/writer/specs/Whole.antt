@@ -6,7 +6,7 @@ use mathlib.Core.Path.{_≡_}
 use lib.ListN.{length}
 use Rattle.record.specs.declared.Record.{Record}
 use Rattle.record.specs.Ranges.{inRange}
-use Rattle.table.specs.Answers.{isUnderway, Outcome}
+use Rattle.answers.specs.Answers.{isUnderway, Outcome}
 use Rattle.table.specs.Whole.{untilEnded}
 use Rattle.moves.specs.Moves.{isIdle}
 use Rattle.writer.specs.Step.{stepWriter}

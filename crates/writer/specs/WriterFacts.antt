@@ -5,8 +5,8 @@ use mathlib.Core.List.{List}
 use mathlib.Core.Logic.{_≢_}
 use lib.ListN.{length, getD}
 use Rattle.record.specs.declared.Record.{Record}
-use Rattle.table.specs.Answers.{Outcome}
-use Rattle.table.specs.declared.access.ReadAccess.{ReadAccess}
+use Rattle.answers.specs.Answers.{Outcome}
+use Rattle.search.specs.declared.access.ReadAccess.{ReadAccess}
 use Rattle.moves.specs.declared.memory.Store.{Store}
 use Rattle.moves.specs.declared.memory.WriterAccess.{WriterAccess}
 use Rattle.moves.specs.declared.memory.WriterAccess.the-variants.{Read, StoreReach, StoreSlot}

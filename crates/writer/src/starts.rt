@@ -1,9 +1,10 @@
 // The calls that start one of the writer's operations. A start takes no step.
 ghost use mathlib.Core.Path.{_≡_};
 ghost use Rattle.refusal.specs.Refusals.{paperJudged};
-ghost use Rattle.table.specs.Answers.{paperStart, outcome};
+ghost use Rattle.answers.specs.Answers.{paperStart, outcome};
 ghost use Rattle.writer.specs.Starts.{startRefusal, startWriter, startPut, startChange, startRemoval};
 use crate::step::has_no_work;
+use answers::StartAnswer;
 use record::Alteration;
 use record::Change;
 use record::ChangeStage;
@@ -20,7 +21,6 @@ use record::ranges::is_in_range;
 use record::ranges::is_valid_point;
 use refusal::Judged;
 use refusal::Refusal;
-use table::StartAnswer;
 use table::StartOutcome;
 
 // Document 01's order: 1, 2, 4.

@@ -2,9 +2,10 @@
 ghost use mathlib.Core.Path.{_≡_};
 ghost use Rattle.refusal.specs.Refusals.{paperJudged};
 ghost use Rattle.record.specs.Parts.{withWriter};
-ghost use Rattle.table.specs.Answers.{paperWriter, outcome};
+ghost use Rattle.answers.specs.Answers.{paperWriter, outcome};
 ghost use Rattle.moves.specs.Moves.{isIdle, updated, paperMoved};
 ghost use Rattle.writer.specs.Step.{writerAccess, writerAdvance, stepRefusal, writerRuns, stepWriter};
+use answers::WriterAnswer;
 use change::change_access;
 use change::change_advance;
 use moves::memory::WriterAccess;
@@ -22,8 +23,7 @@ use refusal::Judged;
 use refusal::Refusal;
 use removal::removal_access;
 use removal::removal_advance;
-use table::WriterAnswer;
-use table::access::ReadAccess;
+use search::access::ReadAccess;
 
 // What the writer's step leaves besides the slots: the record, and the answer.
 pub struct WriterOutcome {

@@ -4,7 +4,7 @@ ghost use mathlib.Core.Bool.{true, false};
 ghost use mathlib.Core.Path.{_≡_};
 ghost use lib.ListN.{length};
 ghost use Rattle.record.specs.Ranges.{inRange};
-ghost use Rattle.table.specs.Answers.{paperStart, paperWriter, isUnderway, outcome, underway};
+ghost use Rattle.answers.specs.Answers.{paperStart, paperWriter, isUnderway, outcome, underway};
 ghost use Rattle.table.specs.Whole.{untilEnded};
 ghost use Rattle.moves.specs.Moves.{isIdle};
 ghost use Rattle.writer.specs.Whole.{Begun, writerStep, wholePut, wholeChange, wholeRemoval};
@@ -13,10 +13,10 @@ use crate::starts::start_put;
 use crate::starts::start_removal;
 use crate::step::WriterOutcome;
 use crate::step::run_step;
+use answers::StartAnswer;
+use answers::WriterAnswer;
 use record::Record;
-use table::StartAnswer;
 use table::StartOutcome;
-use table::WriterAnswer;
 
 fn goes_on(answer: WriterAnswer) -> bool
     ensures { λ r. ⌜ r ≡ isUnderway (paperWriter answer) ⌝ }

@@ -4,7 +4,7 @@ use Prim.Native.Nat.{ℕ}
 use mathlib.Core.Path.{_∙_, ap}
 use borrow.Author.Tests.{lt-ltb, le-ltb}
 use borrow.Author.Needs.{needs}
-use Rattle.table.specs.Answers.{placed}
+use Rattle.answers.specs.Answers.{placed}
 use Rattle.moves.specs.declared.update.Update.the-variants.{Counted}
 use Rattle.moves.specs.Moves.{ends}
 use Rattle.put.specs.Put.{putTakes}

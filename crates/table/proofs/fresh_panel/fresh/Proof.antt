@@ -6,7 +6,7 @@ use borrow.Author.Tests.{not-true, not-false}
 use borrow.Author.Needs.{needs}
 use denote.Ref.{now}
 use Rattle.record.specs.declared.Record.{Record}
-use Rattle.table.specs.Answers.{refused, gives, outcome}
+use Rattle.answers.specs.Answers.{refused, gives, outcome}
 use Rattle.table.specs.FreshPanel.{makeFresh}
 use Rattle.table.proofs.fresh_panel.fresh.Statement.{statement}
 use Rattle.table.proofs.fresh_panel.fresh.Tie as tie

@@ -1,7 +1,7 @@
 use mathlib.Core.Path.{ap, _∙_, sym}
 use borrow.Author.Needs.{needs}
 use Rattle.record.specs.declared.ReaderWork.the-variants.{Idle as ReaderWork·Idle}
-use Rattle.table.specs.Answers.{Answer}
+use Rattle.answers.specs.Answers.{Answer}
 use Rattle.table.specs.Reader.{lookupAdvance, lookupMove}
 use Rattle.table.proofs.reader.lookup_advance.Statement.{statement}
 use Rattle.table.proofs.reader.lookup_advance.Tie as tie

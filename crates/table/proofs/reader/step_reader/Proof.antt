@@ -6,10 +6,10 @@ use borrow.Author.Needs.{needs}
 use denote.Ref.{now}
 use Rattle.refusal.specs.Refusals.{paperJudged}
 use Rattle.record.specs.Parts.{workOf}
-use Rattle.table.specs.Answers.{outcome, unlessRefused, paperReader}
-use Rattle.table.specs.Access.{wordRead}
+use Rattle.answers.specs.Answers.{outcome, unlessRefused, paperReader}
+use Rattle.search.specs.Access.{wordRead}
 use Rattle.table.specs.Reader.{stepReader, readerRuns, moved, readerAdvance}
-use Rattle.table.proofs.AnswerLaws.{refused-outcome, allowed-outcome}
+use Rattle.answers.proofs.AnswerLaws.{refused-outcome, allowed-outcome}
 use Rattle.table.proofs.reader.step_reader.Statement.{statement}
 use Rattle.table.proofs.reader.step_reader.Tie as tie
 

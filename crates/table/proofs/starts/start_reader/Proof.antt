@@ -7,9 +7,9 @@ use denote.Ref.{now}
 use Rattle.refusal.specs.Refusals.{paperJudged}
 use Rattle.record.specs.Parts.{withWork}
 use Rattle.record.specs.declared.Record.{Record}
-use Rattle.table.specs.Answers.{started, outcome}
+use Rattle.answers.specs.Answers.{started, outcome}
 use Rattle.table.specs.Starts.{startReader}
-use Rattle.table.proofs.AnswerLaws.{refused-outcome, allowed-outcome}
+use Rattle.answers.proofs.AnswerLaws.{refused-outcome, allowed-outcome}
 use Rattle.table.proofs.starts.start_reader.Statement.{statement}
 use Rattle.table.proofs.starts.start_reader.Tie as tie
 

@@ -7,7 +7,7 @@ use native.Mathlib.Omega.{arith}
 use borrow.Author.Tests.{not-true, not-false}
 use borrow.Author.Needs.{needs}
 use denote.Ref.{now}
-use Rattle.table.specs.Answers.{paperReader, isUnderway, outcome, underway}
+use Rattle.answers.specs.Answers.{paperReader, isUnderway, outcome, underway}
 use Rattle.table.specs.Whole.{untilEnded, readerStep}
 use Rattle.table.proofs.WholeLaws.{one-step, has-ended, used-up}
 use Rattle.table.proofs.whole.reader_steps.Statement.{statement}

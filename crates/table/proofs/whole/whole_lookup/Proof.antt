@@ -6,10 +6,10 @@ use native.Mathlib.Omega.{arith}
 use borrow.Author.Needs.{needs}
 use denote.Ref.{now}
 use Rattle.refusal.specs.Refusals.{numberOf}
-use Rattle.table.specs.Answers.{paperStart, isUnderway, outcome, underway, refused, started}
+use Rattle.answers.specs.Answers.{paperStart, isUnderway, outcome, underway, refused, started}
 use Rattle.table.specs.Whole.{untilEnded, readerStep, wholeLookup}
 use Rattle.table.proofs.WholeLaws.{has-ended, same-step}
-use Rattle.table.specs.declared.answers.StartAnswer.{StartAnswer}
+use Rattle.answers.specs.declared.StartAnswer.{StartAnswer}
 use Rattle.table.proofs.whole.whole_lookup.Statement.{statement}
 use Rattle.table.proofs.whole.whole_lookup.Tie as tie
 

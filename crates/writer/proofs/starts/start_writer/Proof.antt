@@ -7,8 +7,8 @@ use denote.Ref.{now}
 use Rattle.refusal.specs.Refusals.{paperJudged}
 use Rattle.record.specs.declared.Record.{Record}
 use Rattle.record.specs.Parts.{withWriter}
-use Rattle.table.specs.Answers.{started, outcome, unlessRefused}
-use Rattle.table.proofs.AnswerLaws.{refused-outcome, allowed-outcome}
+use Rattle.answers.specs.Answers.{started, outcome, unlessRefused}
+use Rattle.answers.proofs.AnswerLaws.{refused-outcome, allowed-outcome}
 use Rattle.writer.specs.Starts.{startWriter}
 use Rattle.writer.proofs.starts.start_writer.Statement.{statement}
 use Rattle.writer.proofs.starts.start_writer.Tie as tie

@@ -3,7 +3,7 @@
 use mathlib.Core.Path.{_∙_, ap}
 use borrow.Author.Needs.{needs}
 use denote.Ref.{now}
-use Rattle.table.specs.Answers.{outcome, paperWriter}
+use Rattle.answers.specs.Answers.{outcome, paperWriter}
 use Rattle.writer.specs.Step.{writerAdvance, moved, writerRuns}
 use Rattle.moves.specs.Memory.{accessRead, slotsAfter}
 use Rattle.writer.proofs.step.run_step.Statement.{statement}

@@ -5,8 +5,8 @@ use mathlib.Core.Path.{_∙_, sym, ap}
 use borrow.Author.Needs.{needs}
 use denote.Ref.{now}
 use Rattle.refusal.specs.Refusals.{paperJudged}
-use Rattle.table.specs.Answers.{unlessRefused}
-use Rattle.table.proofs.AnswerLaws.{refused-outcome, allowed-outcome}
+use Rattle.answers.specs.Answers.{unlessRefused}
+use Rattle.answers.proofs.AnswerLaws.{refused-outcome, allowed-outcome}
 use Rattle.writer.specs.Step.{writerRuns, stepWriter}
 use Rattle.writer.proofs.step.step_writer.Statement.{statement}
 use Rattle.writer.proofs.step.step_writer.Tie as tie

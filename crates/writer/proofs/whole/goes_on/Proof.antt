@@ -1,7 +1,7 @@
 -- `writer::whole::goes_on` meets its contract, case by case.
 -- Assumes nothing.
 use borrow.Author.Needs.{needs}
-use Rattle.table.specs.Answers.{isUnderway}
+use Rattle.answers.specs.Answers.{isUnderway}
 use Rattle.writer.proofs.whole.goes_on.Statement.{statement}
 use Rattle.writer.proofs.whole.goes_on.Tie as tie
 

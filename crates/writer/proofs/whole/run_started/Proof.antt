@@ -4,8 +4,8 @@ use mathlib.Core.Path.{refl, _∙_, sym, ap}
 use borrow.Author.Needs.{needs}
 use denote.Ref.{now}
 use Rattle.refusal.specs.Refusals.{numberOf}
-use Rattle.table.specs.declared.answers.StartAnswer.{StartAnswer}
-use Rattle.table.specs.Answers.{started, refused, underway, isUnderway, outcome, paperStart}
+use Rattle.answers.specs.declared.StartAnswer.{StartAnswer}
+use Rattle.answers.specs.Answers.{started, refused, underway, isUnderway, outcome, paperStart}
 use Rattle.table.specs.Whole.{untilEnded}
 use Rattle.table.proofs.WholeLaws.{has-ended, same-step}
 use Rattle.writer.specs.Whole.{writerStep}

@@ -7,7 +7,7 @@ use native.Mathlib.Omega.{arith}
 use borrow.Author.Tests.{not-true, not-false}
 use borrow.Author.Needs.{needs}
 use lib.ListN.{length}
-use Rattle.table.specs.Answers.{underway, isUnderway, Outcome, outcome, paperWriter}
+use Rattle.answers.specs.Answers.{underway, isUnderway, Outcome, outcome, paperWriter}
 use Rattle.table.specs.Whole.{untilEnded}
 use Rattle.table.proofs.WholeLaws.{one-step, has-ended, used-up}
 use Rattle.writer.specs.Whole.{writerStep}

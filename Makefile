@@ -1,16 +1,17 @@
-# run: proves and builds the test program and what it rests on, and runs it.
+# run: proves and builds the bench program and what it rests on, and runs it on its sample input.
 # test: the gate, all tests and proofs from nothing.
-# bench: the frame library and the readers, each beside an independent Rust program, in one run.
+# bench: the frame library, the readers and the bench program, each beside an independent Rust program,
+#        in one run.
 .PHONY: run test bench
 
 run:
-	rt check vectors
-	target/bin/vectors
+	rt check bench
+	target/bin/bench <crates/bench/stdin
 
 test:
 	.ci/run
 
 bench:
 	rt staticlib frame
-	rt check reader_speed
+	rt check reader_speed bench
 	host/bench

@@ -6,8 +6,8 @@ ghost use Rattle.disabled_points.specs.Disabled.{disabled, holdsDisabled
 use answers::DisplayAnswer;
 use answers::TotalAnswer;
 use record::Record;
-use record::ranges::is_in_range;
-use record::ranges::is_valid_point;
+use record_ranges::is_in_range;
+use record_ranges::is_valid_point;
 use refusal::Refusal;
 use refusal::tests::both_hold;
 use search::word::point_of;

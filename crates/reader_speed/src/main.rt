@@ -2,11 +2,11 @@
 // input, S or L, and 10 to the power of the digit behind it turns. Prints the steps made and a sum of
 // what they answered.
 use answers::ReaderAnswer;
+use reader_step::step_reader;
 use record::Record;
 use record::parts::fresh_record;
 use table::start_lookup;
 use table::start_walk;
-use table::step_reader;
 
 fn main() {
     let mut input = [0u8; 2];

@@ -1,3 +1,1 @@
-pub mod All
 pub mod Numbered
-pub mod Laws

@@ -1,16 +1,12 @@
--- Laws of elements counted from 1: the number n stands at n − 1; with 0, or past the end, none is read and none replaced. And what a test of all
--- elements, or of the first k, says of one, and of the list with one replaced.
+-- Laws of elements counted from 1: the number n stands at n − 1; with 0, or past the end, none is read and none replaced.
 -- Assumes nothing.
 use Prim.Native.Nat.{ℕ, zero, suc, _-_, _≤_, _<_}
 use mathlib.Core.Path.{_≡_, refl, ap, sym, _∙_}
-use mathlib.Core.Bool.{Bool, true}
-use mathlib.Core.List.{List, [], _∷_}
+use mathlib.Core.List.{List, map}
 use native.Mathlib.Omega.{arith}
-use lib.ListN.{length, getD, set, take, List·getD-eq-default}
-use lib.Seq.{set-out, getD-take}
+use lib.ListN.{length, length-map, getD, set, List·getD-eq-default}
+use lib.Seq.{set-out}
 use Rattle.record.specs.Parts.{numbered, withNumbered}
-use Rattle.record.specs.Ranges.{all}
-use Rattle.record.proofs.All.{all-at, all-set}
 
 module _ {A : Type 0} (list : List A) where
   pub numbered-at : (n : ℕ) (none : A) → 1 ≤ n → numbered list n none ≡ getD list (n - 1) none
@@ -43,24 +39,6 @@ module _ {A : Type 0} (list : List A) where
   replaced-past zero new h = refl
   replaced-past (suc i) new h = set-out list i new (omega arith)
 
-take-set : {A : Type 0} (k : ℕ) (list : List A) (i : ℕ) (x : A) → take k (set list i x) ≡ set (take k list) i x
-take-set zero list i x = refl
-take-set (suc k) [] i x = refl
-take-set (suc k) (y ∷ list) zero x = refl
-take-set (suc k) (y ∷ list) (suc i) x = ap (λ (rest : List _). y ∷ rest) (take-set k list i x)
-
-module _ {A : Type 0} (test : A → Bool) where
-  pub all-replaced : (list : List A) (n : ℕ) (x : A) → all test list ≡ true → test x ≡ true → all test (withNumbered list n x) ≡ true
-  unfolding withNumbered
-  all-replaced list zero x h e = h
-  all-replaced list (suc i) x h e = all-set test list i x h e
-
-  pub all-first-replaced : (k : ℕ) (list : List A) (n : ℕ) (x : A) → all test (take k list) ≡ true → test x ≡ true → all test (take k (withNumbered list n x)) ≡ true
-  unfolding withNumbered
-  all-first-replaced k list zero x h e = h
-  all-first-replaced k list (suc i) x h e = ap (all test) (take-set k list i x) ∙ all-set test (take k list) i x h e
-
-  pub all-first-at : (k : ℕ) (list : List A) (n : ℕ) (none : A) → all test (take k list) ≡ true → test none ≡ true → n ≤ k → test (numbered list n none) ≡ true
-  unfolding numbered
-  all-first-at k list zero none h e below = e
-  all-first-at k list (suc i) none h e below = sym (ap test (getD-take k list i none (omega arith))) ∙ all-at test (take k list) i none h e
+-- a list is as long as another made of it element by element: the kit tells an array field's length by the latter
+pub mapped-length : {A B : Type 0} (l : List A) (f : A → B) (n : ℕ) → length (map f l) ≡ n → length l ≡ n
+mapped-length l f n h = sym (length-map l f) ∙ h

@@ -1,7 +1,6 @@
 // Document 01's record: one value that the main loop keeps and every step changes. Here are its types;
-// `ranges` judges its fields, `parts` makes records and reads and replaces their parts.
+// `parts` makes records and reads and replaces their parts.
 pub mod parts;
-pub mod ranges;
 
 // The record. A value of it is called `panel` everywhere, since the proof language reserves the word.
 pub struct Record {

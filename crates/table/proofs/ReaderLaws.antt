@@ -17,13 +17,13 @@ use Rattle.record.specs.declared.Walk.{Walk}
 use Rattle.record.specs.declared.ReaderWork.{ReaderWork}
 use Rattle.record.specs.declared.ReaderWork.the-variants.{Idle, LookingUp, Walking}
 use Rattle.record.specs.Parts.{workOf, withWork}
-use Rattle.record.specs.Ranges.{validPoint, searchInRange, lookupInRange, workInRange, inRange}
-use Rattle.record.proofs.Laws.{fields, sizes-in-range, work-in-range, with-work-in-range, others-stay}
+use Rattle.record_ranges.specs.Ranges.{validPoint, searchInRange, lookupInRange, workInRange, inRange}
+use Rattle.record_ranges.proofs.Laws.{fields, sizes-in-range, work-in-range, with-work-in-range, others-stay}
 use Rattle.search.specs.declared.access.ReadAccess.the-variants.{Slot}
 use Rattle.search.specs.declared.Searched.{Searched}
 use Rattle.search.specs.declared.Searched.the-variants.{Going, Answered}
 use Rattle.answers.specs.Answers.{Answer, started, walked, walkedLast, Outcome, outcome}
-use Rattle.table.specs.Reader.{readerAccess, ReaderMove, lookupMove, lookupAdvance, walkAdvance, readerAdvance, moved, readerRuns, stepRefusal, stepReader}
+use Rattle.reader_step.specs.Reader.{readerAccess, ReaderMove, lookupMove, lookupAdvance, walkAdvance, readerAdvance, moved, readerRuns, stepRefusal, stepReader}
 use Rattle.table.specs.Starts.{lookupRefusal, startReader, startLookup, startWalk}
 use Rattle.table.specs.ReaderFacts.{OnlyWorkOf, Met, workAfter, ReachWithin, at-end, at-step}
 use Rattle.answers.proofs.AnswerLaws.{unless}

@@ -17,15 +17,15 @@ use Rattle.record.specs.declared.Walk.{Walk}
 use Rattle.record.specs.declared.ReaderWork.{ReaderWork}
 use Rattle.record.specs.declared.ReaderWork.the-variants.{Idle, LookingUp, Walking}
 use Rattle.record.specs.Parts.{workOf, withWork}
-use Rattle.record.specs.Ranges.{validPoint, workInRange, lookupInRange, searchInRange, inRange}
-use Rattle.record.proofs.Laws.{fields, work-in-range, with-work-in-range, work-replaced}
+use Rattle.record_ranges.specs.Ranges.{validPoint, workInRange, lookupInRange, searchInRange, inRange}
+use Rattle.record_ranges.proofs.Laws.{fields, work-in-range, with-work-in-range, work-replaced}
 use Rattle.search.specs.declared.Searched.{Searched}
 use Rattle.search.specs.declared.Searched.the-variants.{Going, Answered}
 use Rattle.search.specs.declared.SearchAnswer.the-variants.{Found, Unknown}
 use Rattle.search.specs.Access.{wordRead}
 use Rattle.answers.specs.Answers.{started, refused, walked, walkedLast, isUnderway, Outcome, outcome, unlessRefused}
 use Rattle.search.specs.Search.{searchAdvance}
-use Rattle.table.specs.Reader.{isIdle, readerAccess, ReaderMove, lookupAnswer, lookupMove, lookupAdvance, walkAdvance, readerAdvance, stepRefusal, moved, readerRuns, stepReader}
+use Rattle.reader_step.specs.Reader.{isIdle, readerAccess, ReaderMove, lookupAnswer, lookupMove, lookupAdvance, walkAdvance, readerAdvance, stepRefusal, moved, readerRuns, stepReader}
 use Rattle.table.specs.Starts.{lookupRefusal, startReader, startLookup}
 use Rattle.table.specs.Whole.{untilEnded, readerStep, wholeLookup}
 use Rattle.search.proofs.SearchLaws.{searchLeft}

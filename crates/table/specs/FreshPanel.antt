@@ -4,7 +4,7 @@ use mathlib.Core.Bool.{cond}
 use mathlib.Core.List.{List, []}
 use lib.ListN.{length, replicate}
 use Rattle.record.specs.Parts.{freshRecord}
-use Rattle.record.specs.Ranges.{sizesInRange}
+use Rattle.record_ranges.specs.Ranges.{sizesInRange}
 use Rattle.answers.specs.Answers.{gives, refused, Outcome, outcome}
 
 -- making a fresh record

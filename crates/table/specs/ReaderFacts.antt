@@ -7,7 +7,7 @@ use Rattle.record.specs.declared.Record.{Record}
 use Rattle.record.specs.declared.ReaderWork.{ReaderWork}
 use Rattle.record.specs.Parts.{workOf}
 use Rattle.answers.specs.Answers.{Outcome}
-use Rattle.table.specs.Reader.{readerAdvance}
+use Rattle.reader_step.specs.Reader.{readerAdvance}
 
 -- nothing but one reader's work has changed: not the slots, nor any other part of the record
 pub record OnlyWorkOf (reader : ℕ) (panel : Record) (slots : List ℕ) (after : Outcome) : Type 0 where

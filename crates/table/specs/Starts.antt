@@ -10,9 +10,9 @@ use Rattle.record.specs.declared.ReaderWork.{ReaderWork}
 use Rattle.record.specs.declared.ReaderWork.the-variants.{LookingUp, Walking}
 use Rattle.record.specs.declared.Search.the-variants.{Unread}
 use Rattle.record.specs.Parts.{workOf, withWork}
-use Rattle.record.specs.Ranges.{inRange, validPoint}
+use Rattle.record_ranges.specs.Ranges.{inRange, validPoint}
 use Rattle.answers.specs.Answers.{started, Outcome, outcome, unlessRefused}
-use Rattle.table.specs.Reader.{isIdle}
+use Rattle.reader_step.specs.Reader.{isIdle}
 
 -- "starting a lookup 1, 3, 2, 4"
 unfoldable pub lookupRefusal : ℕ → Record → ℕ → ℕ → ℕ

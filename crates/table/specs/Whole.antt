@@ -4,7 +4,7 @@ use mathlib.Core.Bool.{cond}
 use mathlib.Core.List.{List}
 use Rattle.record.specs.declared.Record.{Record}
 use Rattle.answers.specs.Answers.{isUnderway, Outcome}
-use Rattle.table.specs.Reader.{stepReader}
+use Rattle.reader_step.specs.Reader.{stepReader}
 use Rattle.table.specs.Starts.{startLookup}
 
 -- as many steps as the operation takes, at most n

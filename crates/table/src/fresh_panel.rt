@@ -6,7 +6,7 @@ ghost use Rattle.table.specs.FreshPanel.{makeFresh};
 use answers::FreshAnswer;
 use record::Record;
 use record::parts::fresh_record;
-use record::ranges::are_sizes_in_range;
+use record_ranges::are_sizes_in_range;
 use refusal::Refusal;
 
 // What `fresh` leaves besides the slots: the record, and the answer.

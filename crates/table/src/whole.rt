@@ -2,11 +2,11 @@
 ghost use mathlib.Core.Path.{_≡_};
 ghost use Rattle.answers.specs.Answers.{paperReader, isUnderway, outcome, underway};
 ghost use Rattle.table.specs.Whole.{untilEnded, readerStep, wholeLookup};
-use crate::reader::ReaderOutcome;
-use crate::reader::step_reader;
 use crate::starts::start_lookup;
 use answers::ReaderAnswer;
 use answers::StartAnswer;
+use reader_step::ReaderOutcome;
+use reader_step::step_reader;
 use record::Record;
 
 fn goes_on(answer: ReaderAnswer) -> bool

@@ -6,11 +6,11 @@ use crate::printing::text;
 use crate::printing::word;
 use answers::ReaderAnswer;
 use answers::StartAnswer;
+use reader_step::step_reader;
 use record::Record;
 use record::parts::fresh_record;
 use table::start_lookup;
 use table::start_walk;
-use table::step_reader;
 
 pub(crate) fn run() {
     let slots = stored();

@@ -15,7 +15,7 @@ use Rattle.record.specs.declared.RemovalStage.the-variants.{Searching as Remova
 use Rattle.record.specs.declared.WriterWork.{WriterWork}
 use Rattle.record.specs.declared.WriterWork.the-variants.{Putting, Changing, Removing}
 use Rattle.record.specs.Parts.{withWriter}
-use Rattle.record.specs.Ranges.{inRange}
+use Rattle.record_ranges.specs.Ranges.{inRange}
 use Rattle.answers.specs.Answers.{started, refused, isUnderway, Outcome, outcome, unlessRefused}
 use Rattle.table.specs.Whole.{untilEnded}
 use Rattle.search.proofs.SearchLaws.{searchLeft}

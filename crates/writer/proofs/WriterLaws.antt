@@ -15,8 +15,8 @@ use Rattle.record.specs.declared.Record.{Record}
 use Rattle.record.specs.declared.WriterWork.{WriterWork}
 use Rattle.record.specs.declared.WriterWork.the-variants.{Idle, Putting, Changing, Removing}
 use Rattle.record.specs.Parts.{withWriter}
-use Rattle.record.specs.Ranges.{validPoint, searchInRange, putStageInRange, putInRange, alterationInRange, changeStageInRange, changeInRange, removalStageInRange, removalInRange, writerInRange, inRange}
-use Rattle.record.proofs.Laws.{fields, sizes-in-range, with-writer-in-range}
+use Rattle.record_ranges.specs.Ranges.{validPoint, searchInRange, putStageInRange, putInRange, alterationInRange, changeStageInRange, changeInRange, removalStageInRange, removalInRange, writerInRange, inRange}
+use Rattle.record_ranges.proofs.Laws.{fields, sizes-in-range, with-writer-in-range}
 use Rattle.answers.specs.Answers.{started, isUnderway, Outcome, outcome, unlessRefused}
 use Rattle.answers.proofs.AnswerLaws.{unless}
 use Rattle.search.proofs.SearchLaws.{slotRead}

@@ -8,7 +8,7 @@ use Rattle.record.specs.declared.Record.{Record}
 use Rattle.record.specs.declared.WriterWork.{WriterWork}
 use Rattle.record.specs.declared.WriterWork.the-variants.{Idle, Putting, Changing, Removing}
 use Rattle.record.specs.Parts.{withWriter}
-use Rattle.record.specs.Ranges.{inRange}
+use Rattle.record_ranges.specs.Ranges.{inRange}
 use Rattle.search.specs.declared.access.ReadAccess.the-variants.{Nothing as ReadAccess·Nothing}
 use Rattle.answers.specs.Answers.{refused, Outcome, outcome, unlessRefused}
 use Rattle.moves.specs.declared.memory.WriterAccess.{WriterAccess}

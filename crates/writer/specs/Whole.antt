@@ -5,7 +5,7 @@ use mathlib.Core.List.{List}
 use mathlib.Core.Path.{_≡_}
 use lib.ListN.{length}
 use Rattle.record.specs.declared.Record.{Record}
-use Rattle.record.specs.Ranges.{inRange}
+use Rattle.record_ranges.specs.Ranges.{inRange}
 use Rattle.answers.specs.Answers.{isUnderway, Outcome}
 use Rattle.table.specs.Whole.{untilEnded}
 use Rattle.moves.specs.Moves.{isIdle}

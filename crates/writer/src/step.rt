@@ -18,7 +18,7 @@ use put::put_advance;
 use record::Record;
 use record::WriterWork;
 use record::parts::with_writer;
-use record::ranges::is_in_range;
+use record_ranges::is_in_range;
 use refusal::Judged;
 use refusal::Refusal;
 use removal::removal_access;

@@ -3,7 +3,7 @@ ghost use Prim.Native.Nat.{_≤_};
 ghost use mathlib.Core.Bool.{true, false};
 ghost use mathlib.Core.Path.{_≡_};
 ghost use lib.ListN.{length};
-ghost use Rattle.record.specs.Ranges.{inRange};
+ghost use Rattle.record_ranges.specs.Ranges.{inRange};
 ghost use Rattle.answers.specs.Answers.{paperStart, paperWriter, isUnderway, outcome, underway};
 ghost use Rattle.table.specs.Whole.{untilEnded};
 ghost use Rattle.moves.specs.Moves.{isIdle};

@@ -8,7 +8,7 @@ use borrow.Author.Tests.{not-true, not-false}
 use borrow.Author.Needs.{needs}
 use denote.Ref.{now}
 use lib.ListN.{length}
-use Rattle.record.proofs.Laws.{sizes-in-range}
+use Rattle.record_ranges.proofs.Laws.{sizes-in-range}
 use Rattle.answers.specs.Answers.{gives}
 use Rattle.disabled_points.specs.Disabled.{disabledTotal}
 use Rattle.disabled_points.proofs.DisabledLaws.{points-fit}

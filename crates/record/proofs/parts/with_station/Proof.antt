@@ -5,7 +5,7 @@ use native.Mathlib.Omega.{arith}
 use borrow.Author.Needs.{needs}
 use lib.ListN.{length}
 use Rattle.record.specs.Parts.{withStation}
-use Rattle.record.proofs.All.{mapped-length}
+use Rattle.record.proofs.Numbered.{mapped-length}
 use Rattle.record.proofs.Numbered.{replaced-zero, replaced-past, replaced-at}
 use Rattle.record.proofs.parts.with_station.Statement.{statement}
 use Rattle.record.proofs.parts.with_station.Tie as tie

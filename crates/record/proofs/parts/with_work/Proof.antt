@@ -6,7 +6,7 @@ use borrow.Author.Needs.{needs}
 use lib.ListN.{length}
 use lib.Seq.{set-out}
 use Rattle.record.specs.Parts.{withWork}
-use Rattle.record.proofs.All.{mapped-length}
+use Rattle.record.proofs.Numbered.{mapped-length}
 use Rattle.record.proofs.parts.with_work.Statement.{statement}
 use Rattle.record.proofs.parts.with_work.Tie as tie
 

@@ -6,7 +6,7 @@ use borrow.Author.Needs.{needs}
 use lib.ListN.{length, List·getD-eq-default}
 use Rattle.record.specs.declared.Reader.{Reader}
 use Rattle.record.specs.Parts.{idleReader, workOf}
-use Rattle.record.proofs.All.{mapped-length}
+use Rattle.record.proofs.Numbered.{mapped-length}
 use Rattle.record.proofs.parts.work_of.Statement.{statement}
 use Rattle.record.proofs.parts.work_of.Tie as tie
 

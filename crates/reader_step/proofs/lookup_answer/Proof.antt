@@ -1,0 +1,23 @@
+-- `reader_step::lookup_answer` meets its contract, case by case.
+-- Assumes nothing.
+use borrow.Author.Needs.{needs}
+use Rattle.reader_step.specs.Reader.{lookupAnswer}
+use Rattle.reader_step.proofs.lookup_answer.Statement.{statement}
+use Rattle.reader_step.proofs.lookup_answer.Tie as tie
+
+enum-known-answer : tie.Need-enum-known-answer
+enum-known-answer c = search needs
+
+enum-told : tie.Need-enum-told
+enum-told c = search needs
+
+returns : tie.Need-returns
+unfolding lookupAnswer
+returns c = cc
+
+returns-2 : tie.Need-returns-2
+unfolding lookupAnswer
+returns-2 c = cc
+
+pub lookup-answer-spec : {M : Type 1} → statement M
+lookup-answer-spec = tie.close (tie.spec enum-known-answer enum-told returns returns-2)

@@ -1,0 +1,190 @@
+-- Laws of the record that callers cite in place of the definitions' text: what the range test says, field by field and back; what replacing a
+-- part does to the ranges, and one reader's work to the others; that a fresh record is in range and the record of zeros never is.
+-- Assumes nothing.
+use Prim.Native.Nat.{ℕ, _≤_, _<_}
+use mathlib.Core.Path.{_≡_, refl, ap}
+use mathlib.Core.Bool.{true, false}
+use mathlib.Core.Logic.{_≢_}
+use borrow.Author.Tests.{leb-true, le-leb, eqb-true}
+use lib.Dec.{leb, eqb, leb·zero}
+use lib.ListN.{length, replicate}
+use lib.Seq.{getD-set-same, getD-set-other}
+use Rattle.refusal.specs.Judging.{both, either, within}
+use Rattle.refusal.proofs.Laws.{both-left, both-right, both-true, within-low, within-high}
+use Rattle.record.specs.declared.Record.{Record}
+use Rattle.record.specs.declared.Reader.{Reader}
+use Rattle.record.specs.declared.ReaderWork.{ReaderWork}
+use Rattle.record.specs.declared.WriterWork.{WriterWork}
+use Rattle.record.specs.declared.Station.{Station}
+use Rattle.record.specs.Parts.{idleReader, freshRecord, workOf, withWork, withWriter, withReach, countOf, withCount, withStation}
+use Rattle.record_ranges.specs.Ranges.{all, sizesInRange, countsInRange, workInRange, readerInRange, readersInRange, writerInRange, stationInRange, stationsInRange, inRange}
+use Rattle.record_ranges.proofs.All.{all-at, all-set, all-take, all-replicate}
+use Rattle.record_ranges.proofs.NumberedRanges.{all-replaced, all-first-replaced, all-first-at}
+
+-- the numbers of a record in range
+pub record Sizes (m k lent : ℕ) : Type 0 where
+  pub m-low : 1 ≤ m
+  pub m-high : m ≤ 4096
+  pub k-low : 1 ≤ k
+  pub k-high : k ≤ 64
+  pub whole : lent ≡ m
+
+pub sizes : (m k lent : ℕ) → sizesInRange m k lent ≡ true → Sizes m k lent
+unfolding sizesInRange
+sizes m k lent h =
+    let rest = both-right (within 1 m 4096) _ h in
+    let hm = both-left (within 1 m 4096) (both (within 1 k 64) (eqb lent m)) h in
+    let hk = both-left (within 1 k 64) (eqb lent m) rest in
+    record {
+      m-low = within-low 1 m 4096 hm;
+      m-high = within-high 1 m 4096 hm;
+      k-low = within-low 1 k 64 hk;
+      k-high = within-high 1 k 64 hk;
+      whole = eqb-true lent m (both-right (within 1 k 64) (eqb lent m) rest);
+    }
+
+-- what the range test says of each field group
+pub record Fields (lent : ℕ) (panel : Record) : Type 0 where
+  pub sizes-fit : sizesInRange (panel .m) (panel .k) lent ≡ true
+  pub reach-fits : panel .reach ≤ panel .k
+  pub counts-fit : countsInRange (panel .m) (panel .k) (panel .counts) ≡ true
+  pub writer-fits : writerInRange (panel .k) (panel .writer) ≡ true
+  pub readers-fit : readersInRange (panel .m) (panel .k) (panel .readers) ≡ true
+  pub stations-fit : stationsInRange (panel .stations) ≡ true
+
+module _ (lent : ℕ) (panel : Record) where
+  pub fields : inRange lent panel ≡ true → Fields lent panel
+  unfolding inRange
+  fields h =
+      let a = both-right (sizesInRange (panel .m) (panel .k) lent) _ h in
+      let b = both-right (leb (panel .reach) (panel .k)) _ a in
+      let c = both-right (countsInRange (panel .m) (panel .k) (panel .counts)) _ b in
+      let d = both-right (writerInRange (panel .k) (panel .writer)) _ c in
+      record {
+        sizes-fit = both-left (sizesInRange (panel .m) (panel .k) lent) _ h;
+        reach-fits = leb-true (panel .reach) (panel .k) (both-left (leb (panel .reach) (panel .k)) _ a);
+        counts-fit = both-left (countsInRange (panel .m) (panel .k) (panel .counts)) _ b;
+        writer-fits = both-left (writerInRange (panel .k) (panel .writer)) _ c;
+        readers-fit = both-left (readersInRange (panel .m) (panel .k) (panel .readers)) _ d;
+        stations-fit = both-right (readersInRange (panel .m) (panel .k) (panel .readers)) _ d;
+      }
+
+  pub sizes-in-range : inRange lent panel ≡ true → Sizes (panel .m) (panel .k) lent
+  sizes-in-range h = sizes (panel .m) (panel .k) lent (fields h .sizes-fit)
+
+  pub work-in-range : (reader : ℕ) → inRange lent panel ≡ true → workInRange (panel .m) (panel .k) (workOf panel reader) ≡ true
+  unfolding readersInRange readerInRange workInRange workOf
+  work-in-range reader h = all-at (readerInRange (panel .m) (panel .k)) (panel .readers) reader idleReader (fields h .readers-fit) refl
+
+  readers-replaced : (reader : ℕ) (work : ReaderWork) → readersInRange (panel .m) (panel .k) (panel .readers) ≡ true → workInRange (panel .m) (panel .k) work ≡ true → readersInRange (panel .m) (panel .k) (withWork panel reader work .readers) ≡ true
+  unfolding readersInRange readerInRange withWork
+  readers-replaced reader work h e = all-set (readerInRange (panel .m) (panel .k)) (panel .readers) reader (record { work = work }) h e
+
+  -- the range test from its parts
+  pub in-range : Fields lent panel → inRange lent panel ≡ true
+  unfolding inRange
+  in-range f =
+      both-true _ _ (f .sizes-fit)
+      (both-true _ _ (le-leb (panel .reach) (panel .k) (f .reach-fits))
+      (both-true _ _ (f .counts-fit) (both-true _ _ (f .writer-fits) (both-true _ _ (f .readers-fit) (f .stations-fit)))))
+
+-- a record in range stays so if what replaces a part of it is in range
+module _ (lent : ℕ) (panel : Record) (h : inRange lent panel ≡ true) where
+  pub with-work-in-range : (reader : ℕ) (work : ReaderWork) → workInRange (panel .m) (panel .k) work ≡ true → inRange lent (withWork panel reader work) ≡ true
+  unfolding withWork
+  with-work-in-range reader work e =
+      let f = fields lent panel h in
+      in-range lent (withWork panel reader work)
+      (record {
+        sizes-fit = f .sizes-fit;
+        reach-fits = f .reach-fits;
+        counts-fit = f .counts-fit;
+        writer-fits = f .writer-fits;
+        readers-fit = readers-replaced lent panel reader work (f .readers-fit) e;
+        stations-fit = f .stations-fit;
+      })
+
+  pub with-writer-in-range : (work : WriterWork) → writerInRange (panel .k) work ≡ true → inRange lent (withWriter panel work) ≡ true
+  unfolding withWriter
+  with-writer-in-range work e =
+      let f = fields lent panel h in
+      in-range lent (withWriter panel work)
+      (record {
+        sizes-fit = f .sizes-fit;
+        reach-fits = f .reach-fits;
+        counts-fit = f .counts-fit;
+        writer-fits = e;
+        readers-fit = f .readers-fit;
+        stations-fit = f .stations-fit;
+      })
+
+  pub with-reach-in-range : (reach : ℕ) → reach ≤ panel .k → inRange lent (withReach panel reach) ≡ true
+  unfolding withReach
+  with-reach-in-range reach e =
+      let f = fields lent panel h in
+      in-range lent (withReach panel reach)
+      (record {
+        sizes-fit = f .sizes-fit;
+        reach-fits = e;
+        counts-fit = f .counts-fit;
+        writer-fits = f .writer-fits;
+        readers-fit = f .readers-fit;
+        stations-fit = f .stations-fit;
+      })
+
+  pub with-count-in-range : (index count : ℕ) → count ≤ panel .m → inRange lent (withCount panel index count) ≡ true
+  unfolding withCount countsInRange
+  with-count-in-range index count e =
+      let f = fields lent panel h in
+      in-range lent (withCount panel index count)
+      (record {
+        sizes-fit = f .sizes-fit;
+        reach-fits = f .reach-fits;
+        counts-fit = all-first-replaced (λ (c : ℕ). leb c (panel .m)) (panel .k) (panel .counts) index count (f .counts-fit) (le-leb count (panel .m) e);
+        writer-fits = f .writer-fits;
+        readers-fit = f .readers-fit;
+        stations-fit = f .stations-fit;
+      })
+
+  pub with-station-in-range : (station : ℕ) (last : Station) → stationInRange last ≡ true → inRange lent (withStation panel station last) ≡ true
+  unfolding withStation stationsInRange
+  with-station-in-range station last e =
+      let f = fields lent panel h in
+      in-range lent (withStation panel station last)
+      (record {
+        sizes-fit = f .sizes-fit;
+        reach-fits = f .reach-fits;
+        counts-fit = f .counts-fit;
+        writer-fits = f .writer-fits;
+        readers-fit = f .readers-fit;
+        stations-fit = all-replaced stationInRange (panel .stations) station last (f .stations-fit) e;
+      })
+
+  -- "how many stored points use it (0 to m)", of an index that is judged
+  pub count-in-range : (index : ℕ) → index ≤ panel .k → countOf panel index ≤ panel .m
+  unfolding countOf countsInRange
+  count-in-range index e =
+      leb-true (countOf panel index) (panel .m)
+      (all-first-at (λ (c : ℕ). leb c (panel .m)) (panel .k) (panel .counts) index 0 (fields lent panel h .counts-fit) (leb·zero (panel .m)) e)
+
+pub work-replaced : (panel : Record) (reader : ℕ) (work : ReaderWork) → reader < length (panel .readers) → workOf (withWork panel reader work) reader ≡ work
+unfolding workOf withWork
+work-replaced panel reader work h =
+    ap (λ (r : Reader). r .work) (getD-set-same (panel .readers) reader (record { work = work }) idleReader h)
+
+pub others-stay : (panel : Record) (reader other : ℕ) (work : ReaderWork) → other ≢ reader → workOf (withWork panel reader work) other ≡ workOf panel other
+unfolding workOf withWork
+others-stay panel reader other work h =
+    ap (λ (r : Reader). r .work) (getD-set-other (panel .readers) reader other (record { work = work }) idleReader h)
+
+pub fresh-in-range : (m k lent : ℕ) → sizesInRange m k lent ≡ true → inRange lent (freshRecord m k) ≡ true
+unfolding inRange freshRecord countsInRange writerInRange readersInRange readerInRange workInRange stationsInRange stationInRange all both either
+fresh-in-range m k lent h =
+    both-true _ _ h
+    (both-true _ _ (leb·zero k)
+    (both-true _ _ (all-take (λ (count : ℕ). leb count m) k (replicate 64 0) (all-replicate (λ (count : ℕ). leb count m) 64 0 (leb·zero m))) refl))
+
+-- "the record handed back is all zeros": every later call with it is refused
+pub zeros-out-of-range : (lent : ℕ) → inRange lent (freshRecord 0 0) ≡ false
+unfolding inRange freshRecord sizesInRange both within
+zeros-out-of-range lent = refl

@@ -6,7 +6,7 @@ use mathlib.Core.Path.{_≡_, refl, ap, _∙_, sym, transport}
 use mathlib.Core.Bool.{Bool, true, false, cond, not, false≢true}
 use mathlib.Core.List.{List}
 use native.Mathlib.Omega.{arith}
-use borrow.Author.Tests.{ltb-true, ltb-false, le-ltb, not-false}
+use borrow.Author.Tests.{ltb-false, le-ltb, not-true, not-false}
 use lib.Dec.{ltb}
 use lib.ListN.{length, length-set}
 use Rattle.refusal.specs.Judging.{refuseIf}
@@ -19,6 +19,10 @@ use Rattle.record.specs.declared.ReaderWork.the-variants.{Idle, LookingUp, Walk
 use Rattle.record.specs.Parts.{workOf, withWork}
 use Rattle.record_ranges.specs.Ranges.{validPoint, workInRange, lookupInRange, searchInRange, inRange}
 use Rattle.record_ranges.proofs.Laws.{fields, work-in-range, with-work-in-range, work-replaced}
+use Rattle.table.specs.Starts.{lookupRefusal, startReader, startLookup}
+use Rattle.table.specs.Whole.{untilEnded, readerStep, wholeLookup}
+use Rattle.table.proofs.ReaderLaws.{stepsLeft, OneLess, advances, none-left}
+use Rattle.table.proofs.WholeLaws.{budget-suffices, has-ended}
 use Rattle.search.specs.declared.Searched.{Searched}
 use Rattle.search.specs.declared.Searched.the-variants.{Going, Answered}
 use Rattle.search.specs.declared.SearchAnswer.the-variants.{Found, Unknown}
@@ -26,11 +30,7 @@ use Rattle.search.specs.Access.{wordRead}
 use Rattle.answers.specs.Answers.{started, refused, walked, walkedLast, isUnderway, Outcome, outcome, unlessRefused}
 use Rattle.search.specs.Search.{searchAdvance}
 use Rattle.reader_step.specs.Reader.{isIdle, readerAccess, ReaderMove, lookupAnswer, lookupMove, lookupAdvance, walkAdvance, readerAdvance, stepRefusal, moved, readerRuns, stepReader}
-use Rattle.table.specs.Starts.{lookupRefusal, startReader, startLookup}
-use Rattle.table.specs.Whole.{untilEnded, readerStep, wholeLookup}
 use Rattle.search.proofs.SearchLaws.{searchLeft}
-use Rattle.table.proofs.ReaderLaws.{stepsLeft, OneLess, advances, none-left}
-use Rattle.table.proofs.WholeLaws.{budget-suffices, has-ended}
 
 -- "A step that ends an operation .. leaves that party idle", and only such a step does
 lookup-idle : (point : ℕ) (after : Searched) → isUnderway (lookupMove point after .answer) ≡ not (isIdle (lookupMove point after .work))
@@ -65,10 +65,6 @@ record AtWork (reader : ℕ) (now : Outcome) : Type 0 where
 
 left : ℕ → Outcome → ℕ
 left reader now = stepsLeft (now .panel .m) (now .panel .k) (workOf (now .panel) reader)
-
-not-idle : (b : Bool) → not b ≡ true → b ≡ false
-not-idle true e = absurd (false≢true e)
-not-idle false e = refl
 
 -- a reader at work has a step left
 some-left : (m k : ℕ) (work : ReaderWork) → workInRange m k work ≡ true → isIdle work ≡ false → 1 ≤ stepsLeft m k work
@@ -114,7 +110,7 @@ module _ (reader : ℕ) (panel : Record) (slots : List ℕ) (fits : inRange (len
 takes-one : (reader : ℕ) (now : Outcome) → AtWork reader now → isUnderway (now .answer) ≡ true → AtWork reader (readerStep reader now) × (left reader (readerStep reader now) + 1 ≤ left reader now)
 unfolding readerStep left
 takes-one reader now p e =
-    let works = not-idle (isIdle (workOf (now .panel) reader)) (sym (p .busy) ∙ e) in
+    let works = not-true (isIdle (workOf (now .panel) reader)) (sym (p .busy) ∙ e) in
     let same = sym (allowed reader (now .panel) (now .slots) (p .fits) (p .known) (p .held) works) in (
       transport (λ j. AtWork reader (same j)) (at-work reader (now .panel) (now .slots) (p .fits) (p .known) (p .held) works),
       transport (λ j. left reader (same j) + 1 ≤ left reader now) (less reader (now .panel) (now .slots) (p .fits) (p .known) (p .held) works),

@@ -1,12 +1,12 @@
 -- Laws of the writer's calls, for whoever reasons about orders of calls: a step does what its access says and leaves the rest, keeps a record in range,
 -- and takes one of the steps that are left; a put takes at most 2k + 2, a change k + 2, a removal k + 3.
 -- Assumes nothing.
-use Prim.Native.Nat.{ℕ, zero, suc, _+_, _*_, _≤_, _<_}
+use Prim.Native.Nat.{ℕ, zero, suc, _+_, _≤_, _<_}
 use mathlib.Core.Path.{_≡_, refl, ap, _∙_, sym, transport}
-use mathlib.Core.Bool.{Bool, true, false, not, false≢true}
+use mathlib.Core.Bool.{true, false, not, false≢true}
 use mathlib.Core.List.{List}
 use native.Mathlib.Omega.{arith}
-use borrow.Author.Tests.{not-false}
+use borrow.Author.Tests.{not-true, not-false}
 use lib.ListN.{length, getD, length-set}
 use lib.Seq.{getD-set-same, getD-set-other}
 use Rattle.refusal.specs.Judging.{both, refuseIf}
@@ -17,6 +17,10 @@ use Rattle.record.specs.declared.WriterWork.the-variants.{Idle, Putting, Changi
 use Rattle.record.specs.Parts.{withWriter}
 use Rattle.record_ranges.specs.Ranges.{validPoint, searchInRange, putStageInRange, putInRange, alterationInRange, changeStageInRange, changeInRange, removalStageInRange, removalInRange, writerInRange, inRange}
 use Rattle.record_ranges.proofs.Laws.{fields, sizes-in-range, with-writer-in-range}
+use Rattle.writer.specs.Starts.{startRefusal, startWriter, startPut, startChange, startRemoval}
+use Rattle.writer.specs.WriterFacts.{Does, reads, stores-reach, stores-slot, Keeps}
+use Rattle.writer.specs.Whole.{Begun}
+use Rattle.writer.specs.Step.{writerAccess, writerAdvance, stepRefusal, moved, writerRuns, stepWriter}
 use Rattle.answers.specs.Answers.{started, isUnderway, Outcome, outcome, unlessRefused}
 use Rattle.answers.proofs.AnswerLaws.{unless}
 use Rattle.search.proofs.SearchLaws.{slotRead}
@@ -28,10 +32,6 @@ use Rattle.moves.proofs.MoveLaws.{slotNamed, updated-in-range, reachAfter, reac
 use Rattle.put.proofs.PutLaws.{put-moves, put-reach, put-inside}
 use Rattle.change.proofs.ChangeLaws.{change-moves, change-reach, change-inside}
 use Rattle.removal.proofs.RemovalLaws.{removal-moves, removal-reach, removal-inside}
-use Rattle.writer.specs.Starts.{startRefusal, startWriter, startPut, startChange, startRemoval}
-use Rattle.writer.specs.WriterFacts.{Does, reads, stores-reach, stores-slot, Keeps}
-use Rattle.writer.specs.Whole.{Begun, writerStep, wholePut, wholeChange, wholeRemoval}
-use Rattle.writer.specs.Step.{writerAccess, writerAdvance, stepRefusal, moved, writerRuns, stepWriter}
 
 writer-moves : (panel : Record) (work : WriterWork) (word : ℕ) → 1 ≤ panel .k → panel .reach ≤ panel .k → writerInRange (panel .k) work ≡ true → isIdle work ≡ false → OneMove (panel .k) (panel .reach) (writerLeft (panel .k) (panel .reach) work) (writerAdvance panel work word)
 unfolding writerAdvance writerInRange isIdle
@@ -103,13 +103,9 @@ pub record AtWork (now : Outcome) : Type 0 where
   pub fits : inRange (length (now .slots)) (now .panel) ≡ true
   pub busy : isUnderway (now .answer) ≡ not (isIdle (now .panel .writer))
 
-not-idle : (b : Bool) → not b ≡ true → b ≡ false
-not-idle true e = absurd (false≢true e)
-not-idle false e = refl
-
 -- an operation that is underway has work
 pub works : (now : Outcome) → AtWork now → isUnderway (now .answer) ≡ true → isIdle (now .panel .writer) ≡ false
-works now p e = not-idle (isIdle (now .panel .writer)) (sym (p .busy) ∙ e)
+works now p e = not-true (isIdle (now .panel .writer)) (sym (p .busy) ∙ e)
 
 pub run-at-work : (panel : Record) (slots : List ℕ) → inRange (length slots) panel ≡ true → isIdle (panel .writer) ≡ false → AtWork (writerRuns panel slots (panel .writer))
 run-at-work panel slots fits working = record { fits = run-in-range panel slots fits working; busy = run-ended panel slots fits working }

@@ -4,9 +4,9 @@ use crate::printing;
 use line::CommandLine;
 use line::Line;
 use record::Record;
-use table::whole_lookup;
-use writer::whole_put;
-use writer::whole_removal;
+use whole_operations::whole_lookup;
+use whole_operations::whole_put;
+use whole_operations::whole_removal;
 
 // The panel, the number of lines so far, and how much of the output's buffer is in use.
 pub(crate) struct Session {

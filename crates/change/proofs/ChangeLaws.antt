@@ -18,7 +18,8 @@ use Rattle.record.specs.declared.ChangeStage.the-variants.{Searching, Found as 
 use Rattle.record.specs.declared.CommandAnswer.{CommandAnswer}
 use Rattle.record.specs.declared.CommandAnswer.the-variants.{Value, Unknown as CommandAnswer·Unknown}
 use Rattle.record.specs.declared.WriterWork.the-variants.{Changing}
-use Rattle.record_ranges.specs.Ranges.{validPoint, alterationInRange, commandInRange, stationInRange, changeStageInRange, changeInRange, writerInRange}
+use Rattle.work_ranges.specs.WorkRanges.{validPoint, alterationInRange, commandInRange, changeStageInRange, changeInRange, writerInRange}
+use Rattle.record_ranges.specs.Ranges.{stationInRange}
 use Rattle.search.specs.declared.Searched.{Searched}
 use Rattle.search.specs.declared.Searched.the-variants.{Going, Answered}
 use Rattle.search.specs.declared.SearchAnswer.the-variants.{Found as SearchAnswer·Found, Unknown}

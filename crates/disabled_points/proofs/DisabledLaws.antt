@@ -12,7 +12,7 @@ use lib.ListN.{length, getD, drop, drop-of-length-le}
 use lib.Seq.{drop-cons}
 use Rattle.refusal.specs.Judging.{both, either}
 use Rattle.refusal.proofs.Laws.{both-left, within-high}
-use Rattle.record_ranges.specs.Ranges.{validPoint}
+use Rattle.work_ranges.specs.WorkRanges.{validPoint}
 use Rattle.search.specs.Word.{pointOf, valueOf}
 use Rattle.disabled_points.specs.Disabled.{disabled, holdsDisabled, disabledPoints, oneOf, lowest, lowerOf}
 

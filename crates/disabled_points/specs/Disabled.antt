@@ -7,7 +7,8 @@ use lib.Dec.{eqb}
 use lib.ListN.{length}
 use Rattle.refusal.specs.Judging.{both, either}
 use Rattle.record.specs.declared.Record.{Record}
-use Rattle.record_ranges.specs.Ranges.{validPoint, inRange}
+use Rattle.work_ranges.specs.WorkRanges.{validPoint}
+use Rattle.record_ranges.specs.Ranges.{inRange}
 use Rattle.answers.specs.Answers.{Answer, gives, refused}
 use Rattle.search.specs.Word.{pointOf, valueOf}
 

@@ -7,11 +7,11 @@ use answers::DisplayAnswer;
 use answers::TotalAnswer;
 use record::Record;
 use record_ranges::is_in_range;
-use record_ranges::is_valid_point;
 use refusal::Refusal;
 use refusal::tests::both_hold;
 use search::word::point_of;
 use search::word::value_of;
+use work_ranges::is_valid_point;
 
 fn is_disabled(value: u32) -> bool
     ensures { λ r. ⌜ r ≡ disabled value ⌝ }

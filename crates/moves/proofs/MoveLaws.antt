@@ -21,7 +21,8 @@ use Rattle.record.specs.declared.RemovalStage.the-variants.{Searching as Remova
 use Rattle.record.specs.declared.WriterWork.{WriterWork}
 use Rattle.record.specs.declared.WriterWork.the-variants.{Idle, Putting, Changing, Removing}
 use Rattle.record.specs.Parts.{withReach, withCount, withStation, countOf}
-use Rattle.record_ranges.specs.Ranges.{stationInRange, writerInRange, inRange}
+use Rattle.record_ranges.specs.Ranges.{stationInRange, inRange}
+use Rattle.work_ranges.specs.WorkRanges.{writerInRange}
 use Rattle.record_ranges.proofs.Laws.{with-reach-in-range, with-count-in-range, with-station-in-range, count-in-range}
 use Rattle.answers.specs.Answers.{isUnderway}
 use Rattle.search.proofs.SearchLaws.{searchLeft, slotRead}

@@ -17,7 +17,7 @@ use Rattle.record.specs.declared.Put.{Put}
 use Rattle.record.specs.declared.PutStage.{PutStage}
 use Rattle.record.specs.declared.PutStage.the-variants.{Searching, Scanning, Found as PutStage·Found, Chosen}
 use Rattle.record.specs.declared.WriterWork.the-variants.{Putting}
-use Rattle.record_ranges.specs.Ranges.{validPoint, putStageInRange, putInRange, writerInRange}
+use Rattle.work_ranges.specs.WorkRanges.{validPoint, putStageInRange, putInRange, writerInRange}
 use Rattle.search.specs.declared.Searched.{Searched}
 use Rattle.search.specs.declared.Searched.the-variants.{Going, Answered}
 use Rattle.search.specs.declared.SearchAnswer.the-variants.{Found as SearchAnswer·Found, Unknown}

@@ -17,7 +17,8 @@ use Rattle.record.specs.declared.ReaderWork.{ReaderWork}
 use Rattle.record.specs.declared.WriterWork.{WriterWork}
 use Rattle.record.specs.declared.Station.{Station}
 use Rattle.record.specs.Parts.{idleReader, freshRecord, workOf, withWork, withWriter, withReach, countOf, withCount, withStation}
-use Rattle.record_ranges.specs.Ranges.{all, sizesInRange, countsInRange, workInRange, readerInRange, readersInRange, writerInRange, stationInRange, stationsInRange, inRange}
+use Rattle.record_ranges.specs.Ranges.{all, sizesInRange, countsInRange, readerInRange, readersInRange, stationInRange, stationsInRange, inRange}
+use Rattle.work_ranges.specs.WorkRanges.{workInRange, writerInRange}
 use Rattle.record_ranges.proofs.All.{all-at, all-set, all-take, all-replicate}
 use Rattle.record_ranges.proofs.NumberedRanges.{all-replaced, all-first-replaced, all-first-at}
 

@@ -13,7 +13,7 @@ use Rattle.hash.proofs.Laws.{position-below}
 use Rattle.record.specs.declared.Probe.{Probe}
 use Rattle.record.specs.declared.Search.{Search}
 use Rattle.record.specs.declared.Search.the-variants.{Unread, Probing}
-use Rattle.record_ranges.specs.Ranges.{searchInRange}
+use Rattle.work_ranges.specs.WorkRanges.{searchInRange}
 use Rattle.search.specs.declared.access.ReadAccess.{ReadAccess}
 use Rattle.search.specs.declared.access.ReadAccess.the-variants.{Nothing, Reach, Slot}
 use Rattle.search.specs.declared.Searched.{Searched}

@@ -1,3 +1,1 @@
-pub mod WholeLaws
 pub mod ReaderLaws
-pub mod WholeLookup

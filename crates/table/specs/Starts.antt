@@ -10,7 +10,8 @@ use Rattle.record.specs.declared.ReaderWork.{ReaderWork}
 use Rattle.record.specs.declared.ReaderWork.the-variants.{LookingUp, Walking}
 use Rattle.record.specs.declared.Search.the-variants.{Unread}
 use Rattle.record.specs.Parts.{workOf, withWork}
-use Rattle.record_ranges.specs.Ranges.{inRange, validPoint}
+use Rattle.record_ranges.specs.Ranges.{inRange}
+use Rattle.work_ranges.specs.WorkRanges.{validPoint}
 use Rattle.answers.specs.Answers.{started, Outcome, outcome, unlessRefused}
 use Rattle.reader_step.specs.Reader.{isIdle}
 

@@ -13,9 +13,9 @@ use record::Walk;
 use record::parts::with_work;
 use record::parts::work_of;
 use record_ranges::is_in_range;
-use record_ranges::is_valid_point;
 use refusal::Judged;
 use refusal::Refusal;
+use work_ranges::is_valid_point;
 
 // What a start leaves: the record, and the answer.
 pub struct StartOutcome {

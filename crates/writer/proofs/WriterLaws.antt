@@ -15,11 +15,11 @@ use Rattle.record.specs.declared.Record.{Record}
 use Rattle.record.specs.declared.WriterWork.{WriterWork}
 use Rattle.record.specs.declared.WriterWork.the-variants.{Idle, Putting, Changing, Removing}
 use Rattle.record.specs.Parts.{withWriter}
-use Rattle.record_ranges.specs.Ranges.{validPoint, searchInRange, putStageInRange, putInRange, alterationInRange, changeStageInRange, changeInRange, removalStageInRange, removalInRange, writerInRange, inRange}
+use Rattle.work_ranges.specs.WorkRanges.{validPoint, searchInRange, putStageInRange, putInRange, alterationInRange, changeStageInRange, changeInRange, removalStageInRange, removalInRange, writerInRange}
+use Rattle.record_ranges.specs.Ranges.{inRange}
 use Rattle.record_ranges.proofs.Laws.{fields, sizes-in-range, with-writer-in-range}
 use Rattle.writer.specs.Starts.{startRefusal, startWriter, startPut, startChange, startRemoval}
-use Rattle.writer.specs.WriterFacts.{Does, reads, stores-reach, stores-slot, Keeps}
-use Rattle.writer.specs.Whole.{Begun}
+use Rattle.writer.specs.WriterFacts.{Does, reads, stores-reach, stores-slot, Keeps, Begun}
 use Rattle.writer.specs.Step.{writerAccess, writerAdvance, stepRefusal, moved, writerRuns, stepWriter}
 use Rattle.answers.specs.Answers.{started, isUnderway, Outcome, outcome, unlessRefused}
 use Rattle.answers.proofs.AnswerLaws.{unless}

@@ -1,4 +1,3 @@
 pub mod Step
 pub mod Starts
-pub mod Whole
 pub mod WriterFacts

@@ -13,7 +13,8 @@ use Rattle.record.specs.declared.RemovalStage.the-variants.{Searching as Remova
 use Rattle.record.specs.declared.WriterWork.{WriterWork}
 use Rattle.record.specs.declared.WriterWork.the-variants.{Putting, Changing, Removing}
 use Rattle.record.specs.Parts.{withWriter}
-use Rattle.record_ranges.specs.Ranges.{validPoint, inRange}
+use Rattle.work_ranges.specs.WorkRanges.{validPoint}
+use Rattle.record_ranges.specs.Ranges.{inRange}
 use Rattle.answers.specs.Answers.{started, Outcome, outcome, unlessRefused}
 use Rattle.moves.specs.Moves.{isIdle}
 

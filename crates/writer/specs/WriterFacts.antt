@@ -1,15 +1,18 @@
--- The words in which the laws of the writer are stated (proofs/WriterLaws.antt): what a step of the writer leaves alone.
+-- The words in which the laws of the writer are stated (proofs/WriterLaws.antt): what a start of the writer leaves, and what a step of it leaves alone.
 use Prim.Native.Nat.{ℕ, _<_}
 use mathlib.Core.Path.{_≡_}
+use mathlib.Core.Bool.{true, false}
 use mathlib.Core.List.{List}
 use mathlib.Core.Logic.{_≢_}
 use lib.ListN.{length, getD}
 use Rattle.record.specs.declared.Record.{Record}
-use Rattle.answers.specs.Answers.{Outcome}
+use Rattle.record_ranges.specs.Ranges.{inRange}
+use Rattle.answers.specs.Answers.{isUnderway, Outcome}
 use Rattle.search.specs.declared.access.ReadAccess.{ReadAccess}
 use Rattle.moves.specs.declared.memory.Store.{Store}
 use Rattle.moves.specs.declared.memory.WriterAccess.{WriterAccess}
 use Rattle.moves.specs.declared.memory.WriterAccess.the-variants.{Read, StoreReach, StoreSlot}
+use Rattle.moves.specs.Moves.{isIdle}
 
 -- "reads or stores exactly one slot, or reads or stores the reach": what the access does to the slots and to the reach
 pub data Does (reach : ℕ) (slots : List ℕ) (after : Outcome) : WriterAccess → Type 0 where
@@ -23,3 +26,8 @@ pub record Keeps (panel : Record) (slots : List ℕ) (after : Outcome) : Type 0 
   pub m-stays : after .panel .m ≡ panel .m
   pub k-stays : after .panel .k ≡ panel .k
   pub readers-stay : after .panel .readers ≡ panel .readers
+
+-- what a start leaves: unless it was refused, a record in range with a writer at work
+pub record Begun (now : Outcome) : Type 0 where
+  pub fits : isUnderway (now .answer) ≡ true → inRange (length (now .slots)) (now .panel) ≡ true
+  pub works : isUnderway (now .answer) ≡ true → isIdle (now .panel .writer) ≡ false

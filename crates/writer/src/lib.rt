@@ -3,13 +3,10 @@
 // what follows from the word (pure).
 mod starts;
 mod step;
-mod whole;
 
 pub use starts::start_change;
 pub use starts::start_put;
 pub use starts::start_removal;
 pub use step::WriterOutcome;
+pub use step::run_step;
 pub use step::step_writer;
-pub use whole::whole_change;
-pub use whole::whole_put;
-pub use whole::whole_removal;

@@ -18,10 +18,10 @@ use record::Search;
 use record::WriterWork;
 use record::parts::with_writer;
 use record_ranges::is_in_range;
-use record_ranges::is_valid_point;
 use refusal::Judged;
 use refusal::Refusal;
 use table::StartOutcome;
+use work_ranges::is_valid_point;
 
 // Document 01's order: 1, 2, 4.
 fn judge_start(panel: Record, lent: usize, point: u32) -> Judged

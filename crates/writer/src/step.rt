@@ -97,8 +97,8 @@ fn finish(panel: Record, next: Moved) -> WriterOutcome
     }
 }
 
-// The three parts of a step.
-pub(crate) fn run_step(panel: Record, slots: &mut [u64]) -> WriterOutcome
+// The three parts of a step, for a caller that knows what `step_writer` judges first.
+pub fn run_step(panel: Record, slots: &mut [u64]) -> WriterOutcome
     ensures { λ r. ⌜ outcome (r .panel) (now (slots .exit)) (paperWriter (r .answer)) ≡ writerRuns panel (now (slots .entry)) (panel .writer) ⌝ }
 {
     let work = panel.writer;

@@ -1,0 +1,77 @@
+-- Whole operations end: 2k + 2, k + 2 and k + 3 steps suffice, on every record.
+-- Assumes nothing.
+use Prim.Native.Nat.{ℕ, zero, suc, _+_, _*_, _≤_}
+use mathlib.Core.Path.{_≡_, refl, ap, sym, transport}
+use mathlib.Core.Bool.{true, false, not}
+use mathlib.Core.List.{List}
+use native.Mathlib.Omega.{arith}
+use lib.ListN.{length}
+use Rattle.record.specs.declared.Record.{Record}
+use Rattle.record.specs.declared.Search.the-variants.{Unread}
+use Rattle.record.specs.declared.PutStage.the-variants.{Searching as PutStage·Searching}
+use Rattle.record.specs.declared.Alteration.the-variants.{Given}
+use Rattle.record.specs.declared.ChangeStage.the-variants.{Searching as ChangeStage·Searching}
+use Rattle.record.specs.declared.RemovalStage.the-variants.{Searching as RemovalStage·Searching}
+use Rattle.record.specs.declared.WriterWork.{WriterWork}
+use Rattle.record.specs.declared.WriterWork.the-variants.{Putting, Changing, Removing}
+use Rattle.record.specs.Parts.{withWriter}
+use Rattle.record_ranges.specs.Ranges.{inRange}
+use Rattle.answers.specs.Answers.{started, refused, isUnderway, Outcome, outcome, unlessRefused}
+use Rattle.whole_operations.specs.Whole.{untilEnded, writerStep, wholePut, wholeChange, wholeRemoval}
+use Rattle.search.proofs.SearchLaws.{searchLeft}
+use Rattle.whole_operations.proofs.WholeLaws.{budget-suffices, has-ended}
+use Rattle.moves.specs.Moves.{isIdle}
+use Rattle.moves.proofs.MoveLaws.{putSearchLeft, putLeft, changeLeft, removalLeft, writerLeft}
+use Rattle.writer.specs.Step.{writerRuns}
+use Rattle.writer.specs.Starts.{startRefusal, startWriter, startPut, startChange, startRemoval}
+use Rattle.writer.specs.WriterFacts.{Begun}
+use Rattle.writer.proofs.WriterLaws.{AtWork, works, allowed, run-at-work, run-less, put-begins, change-begins, removal-begins}
+
+-- the steps that are left, at most
+left : Outcome → ℕ
+left now = writerLeft (now .panel .k) (now .panel .reach) (now .panel .writer)
+
+takes-one : (now : Outcome) → AtWork now → isUnderway (now .answer) ≡ true → AtWork (writerStep now) × (left (writerStep now) + 1 ≤ left now)
+unfolding writerStep left
+takes-one now p e =
+    let working = works now p e in
+    let same = sym (allowed (now .panel) (now .slots) (p .fits) working) in (
+      transport (λ j. AtWork (same j)) (run-at-work (now .panel) (now .slots) (p .fits) working),
+      transport (λ j. left (same j) + 1 ≤ left now) (run-less (now .panel) (now .slots) (p .fits) working),
+    )
+
+-- an operation with as many steps as its budget
+module _ (panel : Record) (slots : List ℕ) (point budget : ℕ) (work : WriterWork) (enough : writerLeft (panel .k) (panel .reach) work ≤ budget) (working : isIdle work ≡ false) where
+  ends-by : (n : ℕ) → Begun (unlessRefused n panel slots (outcome (withWriter panel work) slots started)) → isUnderway (untilEnded writerStep budget (unlessRefused n panel slots (outcome (withWriter panel work) slots started)) .answer) ≡ false
+  unfolding unlessRefused isUnderway withWriter left
+  ends-by zero begun =
+      budget-suffices writerStep AtWork left takes-one budget (outcome (withWriter panel work) slots started)
+      (record { fits = begun .fits refl; busy = ap not (sym working) }) enough
+  ends-by (suc n) begun = ap (λ (after : Outcome). isUnderway (after .answer)) (has-ended writerStep budget (outcome panel slots (refused (suc n))) refl)
+
+  ends : Begun (startWriter panel slots point work) → isUnderway (untilEnded writerStep budget (startWriter panel slots point work) .answer) ≡ false
+  unfolding startWriter
+  ends begun = ends-by (startRefusal (length slots) panel point) begun
+
+module _ (panel : Record) (slots : List ℕ) (point : ℕ) where
+  -- "At most 2k + 2 steps"
+  pub whole-put-ends : (value : ℕ) → isUnderway (wholePut panel slots point value .answer) ≡ false
+  unfolding wholePut startPut isIdle writerLeft putLeft putSearchLeft
+  whole-put-ends value =
+      ends panel slots point (2 * panel .k + 2) (Putting (record { point = point; value = value; stage = PutStage·Searching Unread })) (omega arith) refl
+      (put-begins panel slots point value)
+
+  -- "At most k + 2"
+  pub whole-change-ends : (keep flip : ℕ) → isUnderway (wholeChange panel slots point keep flip .answer) ≡ false
+  unfolding wholeChange startChange isIdle writerLeft changeLeft searchLeft
+  whole-change-ends keep flip =
+      ends panel slots point (panel .k + 2)
+      (Changing (record { point = point; alteration = Given (record { keep = keep; flip = flip }); stage = ChangeStage·Searching Unread })) (omega arith) refl
+      (change-begins panel slots point keep flip)
+
+  -- "At most k + 3"
+  pub whole-removal-ends : isUnderway (wholeRemoval panel slots point .answer) ≡ false
+  unfolding wholeRemoval startRemoval isIdle writerLeft removalLeft searchLeft
+  whole-removal-ends =
+      ends panel slots point (panel .k + 3) (Removing (record { point = point; stage = RemovalStage·Searching Unread })) (omega arith) refl
+      (removal-begins panel slots point)

@@ -1,0 +1,170 @@
+-- A whole lookup ends: its k + 1 steps suffice, on every record. The number of readers is that of the machine's array, which the definitions' lists do
+-- not carry.
+-- Assumes nothing.
+use Prim.Native.Nat.{ℕ, zero, suc, _+_, _≤_, _<_}
+use mathlib.Core.Path.{_≡_, refl, ap, _∙_, sym, transport}
+use mathlib.Core.Bool.{Bool, true, false, cond, not, false≢true}
+use mathlib.Core.List.{List}
+use native.Mathlib.Omega.{arith}
+use borrow.Author.Tests.{ltb-false, le-ltb, not-true, not-false}
+use lib.Dec.{ltb}
+use lib.ListN.{length, length-set}
+use Rattle.refusal.specs.Judging.{refuseIf}
+use Rattle.refusal.proofs.Laws.{both-true, not-refused}
+use Rattle.record.specs.declared.Record.{Record}
+use Rattle.record.specs.declared.Search.the-variants.{Unread}
+use Rattle.record.specs.declared.Walk.{Walk}
+use Rattle.record.specs.declared.ReaderWork.{ReaderWork}
+use Rattle.record.specs.declared.ReaderWork.the-variants.{Idle, LookingUp, Walking}
+use Rattle.record.specs.Parts.{workOf, withWork}
+use Rattle.work_ranges.specs.WorkRanges.{validPoint, workInRange, lookupInRange, searchInRange}
+use Rattle.record_ranges.specs.Ranges.{inRange}
+use Rattle.record_ranges.proofs.Laws.{fields, work-in-range, with-work-in-range, work-replaced}
+use Rattle.table.specs.Starts.{lookupRefusal, startReader, startLookup}
+use Rattle.whole_operations.specs.Whole.{untilEnded, readerStep, wholeLookup}
+use Rattle.table.proofs.ReaderLaws.{stepsLeft, OneLess, advances, none-left}
+use Rattle.whole_operations.proofs.WholeLaws.{budget-suffices, has-ended}
+use Rattle.search.specs.declared.Searched.{Searched}
+use Rattle.search.specs.declared.Searched.the-variants.{Going, Answered}
+use Rattle.search.specs.declared.SearchAnswer.the-variants.{Found, Unknown}
+use Rattle.search.specs.Access.{wordRead}
+use Rattle.answers.specs.Answers.{started, refused, walked, walkedLast, isUnderway, Outcome, outcome, unlessRefused}
+use Rattle.search.specs.Search.{searchAdvance}
+use Rattle.reader_step.specs.Reader.{isIdle, readerAccess, ReaderMove, lookupAnswer, lookupMove, lookupAdvance, walkAdvance, readerAdvance, stepRefusal, moved, readerRuns, stepReader}
+use Rattle.search.proofs.SearchLaws.{searchLeft}
+
+-- "A step that ends an operation .. leaves that party idle", and only such a step does
+lookup-idle : (point : ℕ) (after : Searched) → isUnderway (lookupMove point after .answer) ≡ not (isIdle (lookupMove point after .work))
+unfolding lookupMove lookupAnswer isUnderway isIdle
+lookup-idle point (Going search) = refl
+lookup-idle point (Answered (Found place)) = refl
+lookup-idle point (Answered Unknown) = refl
+
+walk-idle : (m : ℕ) (walk : Walk) (word : ℕ) → isUnderway (walkAdvance m walk word .answer) ≡ not (isIdle (walkAdvance m walk word .work))
+unfolding walkAdvance isUnderway isIdle
+walk-idle m walk word = go (ltb (walk .next + 1) m)
+  where
+    after : Bool → ReaderMove
+    after b = cond b (record { work = Walking (record { next = walk .next + 1 }); answer = walked word }) (record { work = Idle; answer = walkedLast word })
+
+    go : (b : Bool) → isUnderway (after b .answer) ≡ not (isIdle (after b .work))
+    go true = refl
+    go false = refl
+
+reader-idle : (m reach : ℕ) (work : ReaderWork) (word : ℕ) → isIdle work ≡ false → isUnderway (readerAdvance m reach work word .answer) ≡ not (isIdle (readerAdvance m reach work word .work))
+unfolding readerAdvance lookupAdvance isIdle isUnderway
+reader-idle m reach Idle word e = refl
+reader-idle m reach (LookingUp lookup) word e = lookup-idle (lookup .point) (searchAdvance reach (lookup .point) (lookup .search) word)
+reader-idle m reach (Walking walk) word e = walk-idle m walk word
+
+-- what holds on the way: the record in range, the reader one of its readers, and at work exactly while its operation is underway
+record AtWork (reader : ℕ) (now : Outcome) : Type 0 where
+  fits : inRange (length (now .slots)) (now .panel) ≡ true
+  known : reader ≤ 15
+  held : reader < length (now .panel .readers)
+  busy : isUnderway (now .answer) ≡ not (isIdle (workOf (now .panel) reader))
+
+left : ℕ → Outcome → ℕ
+left reader now = stepsLeft (now .panel .m) (now .panel .k) (workOf (now .panel) reader)
+
+-- a reader at work has a step left
+some-left : (m k : ℕ) (work : ReaderWork) → workInRange m k work ≡ true → isIdle work ≡ false → 1 ≤ stepsLeft m k work
+unfolding isIdle
+some-left m k work fits e = go (stepsLeft m k work) refl
+  where
+    go : (n : ℕ) → stepsLeft m k work ≡ n → 1 ≤ stepsLeft m k work
+    go zero q = absurd (false≢true (sym e ∙ ap isIdle (none-left m k work fits (omega arith))))
+    go (suc n) q = omega arith
+
+-- one step of a reader at work, with its move
+module _ (reader : ℕ) (panel : Record) (slots : List ℕ) (fits : inRange (length slots) panel ≡ true) (known : reader ≤ 15) (held : reader < length (panel .readers)) (works : isIdle (workOf panel reader) ≡ false) where
+  move : ReaderMove
+  move = readerAdvance (panel .m) (panel .reach) (workOf panel reader) (wordRead slots (readerAccess (panel .m) (workOf panel reader)))
+
+  allowed : stepReader panel slots reader ≡ outcome (withWork panel reader (move .work)) slots (move .answer)
+  unfolding stepReader stepRefusal refuseIf unlessRefused readerRuns moved move
+  allowed = rw (fits, le-ltb 15 reader (omega arith), works)
+
+  replaced : workOf (withWork panel reader (move .work)) reader ≡ move .work
+  replaced = work-replaced panel reader (move .work) held
+
+  one : OneLess (panel .m) (panel .k) (stepsLeft (panel .m) (panel .k) (workOf panel reader)) (move .work)
+  unfolding move
+  one = advances (panel .m) (panel .k) (panel .reach) (workOf panel reader) _ (fields (length slots) panel fits .reach-fits) (work-in-range (length slots) panel reader fits)
+
+  at-work : AtWork reader (outcome (withWork panel reader (move .work)) slots (move .answer))
+  unfolding withWork move
+  at-work =
+      record {
+        fits = with-work-in-range (length slots) panel fits reader (move .work) (one .in-range);
+        known = known;
+        held = omega (arith, length-set (panel .readers) reader (record { work = move .work }));
+        busy = reader-idle (panel .m) (panel .reach) (workOf panel reader) _ works ∙ ap (λ (w : ReaderWork). not (isIdle w)) (sym replaced);
+      }
+
+  less : left reader (outcome (withWork panel reader (move .work)) slots (move .answer)) + 1 ≤ left reader (outcome panel slots started)
+  unfolding left withWork
+  less =
+      let after = ap (stepsLeft (panel .m) (panel .k)) replaced in
+      omega (arith, after, one .less, some-left (panel .m) (panel .k) (workOf panel reader) (work-in-range (length slots) panel reader fits) works)
+
+takes-one : (reader : ℕ) (now : Outcome) → AtWork reader now → isUnderway (now .answer) ≡ true → AtWork reader (readerStep reader now) × (left reader (readerStep reader now) + 1 ≤ left reader now)
+unfolding readerStep left
+takes-one reader now p e =
+    let works = not-true (isIdle (workOf (now .panel) reader)) (sym (p .busy) ∙ e) in
+    let same = sym (allowed reader (now .panel) (now .slots) (p .fits) (p .known) (p .held) works) in (
+      transport (λ j. AtWork reader (same j)) (at-work reader (now .panel) (now .slots) (p .fits) (p .known) (p .held) works),
+      transport (λ j. left reader (same j) + 1 ≤ left reader now) (less reader (now .panel) (now .slots) (p .fits) (p .known) (p .held) works),
+    )
+
+-- a lookup that has been started: at work, with k + 1 steps to go
+module _ (panel : Record) (slots : List ℕ) (reader point : ℕ) (h : length (panel .readers) ≡ 16) (e : lookupRefusal (length slots) panel reader point ≡ 0) where
+  work : ReaderWork
+  work = LookingUp (record { point = point; search = Unread })
+
+  begun : Outcome
+  begun = outcome (withWork panel reader work) slots started
+
+  known-reader : reader ≤ 15
+  unfolding lookupRefusal
+  known-reader =
+      let after-1 = not-refused (not (inRange (length slots) panel)) 1 _ (omega arith) e in
+      let after-3 = not-refused (ltb 15 reader) 3 _ (omega arith) (after-1 .1) in
+      omega (arith, ltb-false 15 reader (after-3 .0))
+
+  given : workOf (withWork panel reader work) reader ≡ work
+  given = work-replaced panel reader work (omega (arith, known-reader))
+
+  begun-fits : inRange (length slots) (withWork panel reader work) ≡ true
+  unfolding lookupRefusal work workInRange lookupInRange searchInRange
+  begun-fits =
+      let after-1 = not-refused (not (inRange (length slots) panel)) 1 _ (omega arith) e in
+      let after-3 = not-refused (ltb 15 reader) 3 _ (omega arith) (after-1 .1) in
+      let after-2 = not-refused (not (validPoint point)) 2 _ (omega arith) (after-3 .1) in
+      with-work-in-range (length slots) panel (not-false (inRange (length slots) panel) (after-1 .0)) reader work
+      (both-true (validPoint point) true (not-false (validPoint point) (after-2 .0)) refl)
+
+  begins : AtWork reader begun
+  unfolding begun withWork isUnderway isIdle work
+  begins =
+      record {
+        fits = begun-fits;
+        known = known-reader;
+        held = omega (arith, known-reader, length-set (panel .readers) reader (record { work = work }));
+        busy = ap (λ (w : ReaderWork). not (isIdle w)) (sym given);
+      }
+
+  begins-with : left reader begun ≤ panel .k + 1
+  unfolding begun left withWork work stepsLeft searchLeft
+  begins-with = omega (arith, ap (stepsLeft (panel .m) (panel .k)) given)
+
+-- "ending on the point's slot with its value, else after the r-th with 7"
+pub whole-lookup-ends : (panel : Record) (slots : List ℕ) (reader point : ℕ) → length (panel .readers) ≡ 16 → isUnderway (wholeLookup panel slots reader point .answer) ≡ false
+unfolding wholeLookup startLookup startReader unlessRefused isUnderway begun work
+whole-lookup-ends panel slots reader point h = go (lookupRefusal (length slots) panel reader point) refl
+  where
+    go : (n : ℕ) → lookupRefusal (length slots) panel reader point ≡ n → isUnderway (untilEnded (readerStep reader) (panel .k + 1) (unlessRefused n panel slots (outcome (withWork panel reader (LookingUp (record { point = point; search = Unread }))) slots started)) .answer) ≡ false
+    go zero e =
+        budget-suffices (readerStep reader) (AtWork reader) (left reader) (takes-one reader) (panel .k + 1) (begun panel slots reader point h e) (begins panel slots reader point h e)
+        (begins-with panel slots reader point h e)
+    go (suc n) e = ap (λ (after : Outcome). isUnderway (after .answer)) (has-ended (readerStep reader) (panel .k + 1) (outcome panel slots (refused (suc n))) refl)

@@ -1,0 +1,39 @@
+-- Whole operations: started, and stepped to their end.
+use Prim.Native.Nat.{ℕ, zero, suc, _+_, _*_}
+use mathlib.Core.Bool.{cond}
+use mathlib.Core.List.{List}
+use Rattle.record.specs.declared.Record.{Record}
+use Rattle.answers.specs.Answers.{isUnderway, Outcome}
+use Rattle.reader_step.specs.Reader.{stepReader}
+use Rattle.table.specs.Starts.{startLookup}
+use Rattle.writer.specs.Step.{stepWriter}
+use Rattle.writer.specs.Starts.{startPut, startChange, startRemoval}
+
+-- as many steps as the operation takes, at most n
+unfoldable pub untilEnded : (Outcome → Outcome) → ℕ → Outcome → Outcome
+untilEnded step zero now = now
+untilEnded step (suc n) now = cond (isUnderway (now .answer)) (untilEnded step n (step now)) now
+
+-- a reader's step, from what the call before it left
+unfoldable pub readerStep : ℕ → Outcome → Outcome
+readerStep reader now = stepReader (now .panel) (now .slots) reader
+
+-- the writer's step, from what the call before it left
+unfoldable pub writerStep : Outcome → Outcome
+writerStep now = stepWriter (now .panel) (now .slots)
+
+-- "Lookup: read the reach r; then positions 1 to r": at most k + 1 steps
+unfoldable pub wholeLookup : Record → List ℕ → ℕ → ℕ → Outcome
+wholeLookup panel slots reader point = untilEnded (readerStep reader) (panel .k + 1) (startLookup panel slots reader point)
+
+-- a put: "At most 2k + 2 steps"
+unfoldable pub wholePut : Record → List ℕ → ℕ → ℕ → Outcome
+wholePut panel slots point value = untilEnded writerStep (2 * panel .k + 2) (startPut panel slots point value)
+
+-- a change: "At most k + 2"
+unfoldable pub wholeChange : Record → List ℕ → ℕ → ℕ → ℕ → Outcome
+wholeChange panel slots point keep flip = untilEnded writerStep (panel .k + 2) (startChange panel slots point keep flip)
+
+-- a removal: "At most k + 3"
+unfoldable pub wholeRemoval : Record → List ℕ → ℕ → Outcome
+wholeRemoval panel slots point = untilEnded writerStep (panel .k + 3) (startRemoval panel slots point)

@@ -1,0 +1,36 @@
+-- `work_ranges::is_change_in_range` meets its contract: it joins its tests as the definition does.
+-- Assumes nothing.
+use borrow.Author.Needs.{needs}
+use Rattle.work_ranges.specs.WorkRanges.{changeInRange}
+use Rattle.work_ranges.proofs.is_change_in_range.Statement.{statement}
+use Rattle.work_ranges.proofs.is_change_in_range.Tie as tie
+
+is-valid-point-requires : tie.Need-is-valid-point-requires
+is-valid-point-requires c κs = search needs
+
+is-alteration-in-range-requires : tie.Need-is-alteration-in-range-requires
+is-alteration-in-range-requires c κs = search needs
+
+is-change-stage-in-range-requires : tie.Need-is-change-stage-in-range-requires
+is-change-stage-in-range-requires c κs = search needs
+
+both-hold-requires : tie.Need-both-hold-requires
+both-hold-requires c κs = search needs
+
+both-hold-requires-2 : tie.Need-both-hold-requires-2
+both-hold-requires-2 c κs = search needs
+
+returns : tie.Need-returns
+unfolding changeInRange
+returns c = cc
+
+pub is-change-in-range-spec : {M : Type 1} → statement M
+is-change-in-range-spec =
+    tie.close
+    (tie.spec
+    is-valid-point-requires
+    is-alteration-in-range-requires
+    is-change-stage-in-range-requires
+    both-hold-requires
+    both-hold-requires-2
+    returns)

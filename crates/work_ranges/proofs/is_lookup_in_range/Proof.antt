@@ -1,0 +1,24 @@
+-- `work_ranges::is_lookup_in_range` meets its contract: it joins its tests as the definition does.
+-- Assumes nothing.
+use borrow.Author.Needs.{needs}
+use Rattle.work_ranges.specs.WorkRanges.{lookupInRange}
+use Rattle.work_ranges.proofs.is_lookup_in_range.Statement.{statement}
+use Rattle.work_ranges.proofs.is_lookup_in_range.Tie as tie
+
+is-valid-point-requires : tie.Need-is-valid-point-requires
+is-valid-point-requires c κs = search needs
+
+is-search-in-range-requires : tie.Need-is-search-in-range-requires
+is-search-in-range-requires c κs = search needs
+
+both-hold-requires : tie.Need-both-hold-requires
+both-hold-requires c κs = search needs
+
+returns : tie.Need-returns
+unfolding lookupInRange
+returns c = cc
+
+pub is-lookup-in-range-spec : {M : Type 1} → statement M
+is-lookup-in-range-spec =
+    tie.close
+    (tie.spec is-valid-point-requires is-search-in-range-requires both-hold-requires returns)

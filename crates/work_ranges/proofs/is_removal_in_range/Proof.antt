@@ -1,0 +1,28 @@
+-- `work_ranges::is_removal_in_range` meets its contract: it joins its tests as the definition does.
+-- Assumes nothing.
+use borrow.Author.Needs.{needs}
+use Rattle.work_ranges.specs.WorkRanges.{removalInRange}
+use Rattle.work_ranges.proofs.is_removal_in_range.Statement.{statement}
+use Rattle.work_ranges.proofs.is_removal_in_range.Tie as tie
+
+is-valid-point-requires : tie.Need-is-valid-point-requires
+is-valid-point-requires c κs = search needs
+
+is-removal-stage-in-range-requires : tie.Need-is-removal-stage-in-range-requires
+is-removal-stage-in-range-requires c κs = search needs
+
+both-hold-requires : tie.Need-both-hold-requires
+both-hold-requires c κs = search needs
+
+returns : tie.Need-returns
+unfolding removalInRange
+returns c = cc
+
+pub is-removal-in-range-spec : {M : Type 1} → statement M
+is-removal-in-range-spec =
+    tie.close
+    (tie.spec
+    is-valid-point-requires
+    is-removal-stage-in-range-requires
+    both-hold-requires
+    returns)

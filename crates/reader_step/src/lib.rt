@@ -45,7 +45,7 @@ pub fn has_no_work(work: ReaderWork) -> bool
 }
 
 // Part 1: the access that comes next.
-fn reader_access(work: ReaderWork, m: u32) -> ReadAccess
+pub fn reader_access(work: ReaderWork, m: u32) -> ReadAccess
     ensures { λ r. ⌜ r ≡ readerAccess m work ⌝ }
 {
     match work {
@@ -59,7 +59,7 @@ fn reader_access(work: ReaderWork, m: u32) -> ReadAccess
 }
 
 // Part 3: what follows from the reach or from the word read.
-fn reader_advance(work: ReaderWork, m: u32, reach: u32, word: u64) -> Moved
+pub fn reader_advance(work: ReaderWork, m: u32, reach: u32, word: u64) -> Moved
     ensures { λ r. ⌜ paperMoved r ≡ readerAdvance m reach work word ⌝ }
 {
     match work {

@@ -6,5 +6,6 @@ mod starts;
 pub use fresh_panel::FreshOutcome;
 pub use fresh_panel::fresh;
 pub use starts::StartOutcome;
+pub use starts::judge_lookup;
 pub use starts::start_lookup;
 pub use starts::start_walk;

@@ -24,7 +24,7 @@ pub struct StartOutcome {
 }
 
 // Document 01's order: 1, 3, 2, 4.
-fn judge_lookup(panel: Record, lent: usize, reader: u32, point: u32) -> Judged
+pub fn judge_lookup(panel: Record, lent: usize, reader: u32, point: u32) -> Judged
     ensures { λ r. ⌜ paperJudged r ≡ lookupRefusal lent panel reader point ⌝ }
 {
     if !is_in_range(panel, lent) {

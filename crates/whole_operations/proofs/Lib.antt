@@ -1,3 +1,4 @@
 pub mod WholeLaws
 pub mod WholeLookup
 pub mod WholeEnds
+mod WorkBeside

@@ -40,6 +40,9 @@ takes-one now p e =
       transport (λ j. left (same j) + 1 ≤ left now) (run-less (now .panel) (now .slots) (p .fits) working),
     )
 
+pub stays-at-work : (now : Outcome) → AtWork now → isUnderway (now .answer) ≡ true → AtWork (writerStep now)
+stays-at-work now p e = takes-one now p e .0
+
 -- an operation with as many steps as its budget
 module _ (panel : Record) (slots : List ℕ) (point budget : ℕ) (work : WriterWork) (enough : writerLeft (panel .k) (panel .reach) work ≤ budget) (working : isIdle work ≡ false) where
   ends-by : (n : ℕ) → Begun (unlessRefused n panel slots (outcome (withWriter panel work) slots started)) → isUnderway (untilEnded writerStep budget (unlessRefused n panel slots (outcome (withWriter panel work) slots started)) .answer) ≡ false

@@ -1,8 +1,8 @@
 -- Laws of whole operations: a step while the operation is underway, none once it has ended or the budget is used up;
--- and when a budget suffices.
+-- a loop that takes these steps; and when a budget suffices.
 -- Assumes nothing.
 use Prim.Native.Nat.{ℕ, zero, suc, _+_, _-_, _≤_}
-use mathlib.Core.Path.{_≡_, refl, ap, _∙_, sym}
+use mathlib.Core.Path.{_≡_, refl, ap, _∙_, sym, transport}
 use mathlib.Core.Bool.{Bool, true, false, cond}
 use native.Mathlib.Omega.{arith}
 use Rattle.answers.specs.Answers.{isUnderway, Outcome}
@@ -27,6 +27,36 @@ module _ (step : Outcome → Outcome) where
   -- only the step counts, not what the call before it answered
   pub same-step : (n : ℕ) (a b : Outcome) → 1 ≤ n → isUnderway (a .answer) ≡ true → isUnderway (b .answer) ≡ true → step a ≡ step b → untilEnded step n a ≡ untilEnded step n b
   same-step n a b h e f same = one-step n a h e ∙ ap (untilEnded step (n - 1)) same ∙ sym (one-step n b h f)
+
+  -- a loop on its way from the start: P holds, and what is left to do comes to the same as the whole
+  pub record OnTheWay (P : Outcome → Type 0) (start : Outcome) (budget left : ℕ) (now : Outcome) : Type 0 where
+    pub holds : P now
+    pub goes : 1 ≤ left → isUnderway (now .answer) ≡ true
+    pub same : untilEnded step left now ≡ untilEnded step budget start
+
+  module _ (P : Outcome → Type 0) (keeps : (now : Outcome) → P now → isUnderway (now .answer) ≡ true → P (step now)) (start : Outcome) (budget left : ℕ) (now : Outcome) (way : OnTheWay P start budget left now) where
+    pub arrives : left ≡ 0 → now ≡ untilEnded step budget start
+    arrives e = sym (used-up left now e) ∙ way .same
+
+    module _ (more : 1 ≤ left) (after : Outcome) (takes : step now ≡ after) where
+      after-holds : P after
+      after-holds = transport (λ j. P (takes j)) (keeps now (way .holds) (way .goes more))
+
+      after-same : untilEnded step (left - 1) after ≡ untilEnded step budget start
+      after-same = sym (ap (untilEnded step (left - 1)) takes) ∙ sym (one-step left now more (way .goes more)) ∙ way .same
+
+      -- the step did not end the operation
+      pub goes-on : isUnderway (after .answer) ≡ true → OnTheWay P start budget (left - 1) after
+      goes-on e = record { holds = after-holds; goes = λ h. e; same = after-same }
+
+      -- it did: no further step is taken
+      pub stops : isUnderway (after .answer) ≡ false → OnTheWay P start budget 0 after
+      stops e =
+          record {
+            holds = after-holds;
+            goes = λ h. absurd (omega arith);
+            same = used-up 0 after refl ∙ sym (has-ended (left - 1) after e) ∙ after-same;
+          }
 
   -- a budget suffices that is not below the steps left: P holds of every outcome on the way, and each step takes one of the steps that are left
   module _ (P : Outcome → Type 0) (left : Outcome → ℕ) (takes-one : (now : Outcome) → P now → isUnderway (now .answer) ≡ true → P (step now) × (left (step now) + 1 ≤ left now)) where

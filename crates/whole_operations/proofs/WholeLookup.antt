@@ -9,11 +9,13 @@ use native.Mathlib.Omega.{arith}
 use borrow.Author.Tests.{ltb-false, le-ltb, not-true, not-false}
 use lib.Dec.{ltb}
 use lib.ListN.{length, length-set}
+use lib.Seq.{set-set}
 use Rattle.refusal.specs.Judging.{refuseIf}
 use Rattle.refusal.proofs.Laws.{both-true, not-refused}
 use Rattle.record.specs.declared.Record.{Record}
 use Rattle.record.specs.declared.Search.the-variants.{Unread}
 use Rattle.record.specs.declared.Walk.{Walk}
+use Rattle.record.specs.declared.Reader.{Reader}
 use Rattle.record.specs.declared.ReaderWork.{ReaderWork}
 use Rattle.record.specs.declared.ReaderWork.the-variants.{Idle, LookingUp, Walking}
 use Rattle.record.specs.Parts.{workOf, withWork}
@@ -28,7 +30,7 @@ use Rattle.search.specs.declared.Searched.{Searched}
 use Rattle.search.specs.declared.Searched.the-variants.{Going, Answered}
 use Rattle.search.specs.declared.SearchAnswer.the-variants.{Found, Unknown}
 use Rattle.search.specs.Access.{wordRead}
-use Rattle.answers.specs.Answers.{started, refused, walked, walkedLast, isUnderway, Outcome, outcome, unlessRefused}
+use Rattle.answers.specs.Answers.{Answer, started, refused, walked, walkedLast, isUnderway, Outcome, outcome, unlessRefused}
 use Rattle.search.specs.Search.{searchAdvance}
 use Rattle.reader_step.specs.Reader.{isIdle, readerAccess, ReaderMove, lookupAnswer, lookupMove, lookupAdvance, walkAdvance, readerAdvance, stepRefusal, moved, readerRuns, stepReader}
 use Rattle.search.proofs.SearchLaws.{searchLeft}
@@ -58,11 +60,11 @@ reader-idle m reach (LookingUp lookup) word e = lookup-idle (lookup .point) (sea
 reader-idle m reach (Walking walk) word e = walk-idle m walk word
 
 -- what holds on the way: the record in range, the reader one of its readers, and at work exactly while its operation is underway
-record AtWork (reader : ℕ) (now : Outcome) : Type 0 where
-  fits : inRange (length (now .slots)) (now .panel) ≡ true
-  known : reader ≤ 15
-  held : reader < length (now .panel .readers)
-  busy : isUnderway (now .answer) ≡ not (isIdle (workOf (now .panel) reader))
+pub record AtWork (reader : ℕ) (now : Outcome) : Type 0 where
+  pub fits : inRange (length (now .slots)) (now .panel) ≡ true
+  pub known : reader ≤ 15
+  pub held : reader < length (now .panel .readers)
+  pub busy : isUnderway (now .answer) ≡ not (isIdle (workOf (now .panel) reader))
 
 left : ℕ → Outcome → ℕ
 left reader now = stepsLeft (now .panel .m) (now .panel .k) (workOf (now .panel) reader)
@@ -117,54 +119,88 @@ takes-one reader now p e =
       transport (λ j. left reader (same j) + 1 ≤ left reader now) (less reader (now .panel) (now .slots) (p .fits) (p .known) (p .held) works),
     )
 
--- a lookup that has been started: at work, with k + 1 steps to go
-module _ (panel : Record) (slots : List ℕ) (reader point : ℕ) (h : length (panel .readers) ≡ 16) (e : lookupRefusal (length slots) panel reader point ≡ 0) where
+pub stays-at-work : (reader : ℕ) (now : Outcome) → AtWork reader now → isUnderway (now .answer) ≡ true → AtWork reader (readerStep reader now)
+stays-at-work reader now p e = takes-one reader now p e .0
+
+-- what the three parts of a step come to for a reader whose work is kept beside the record
+module _ (panel : Record) (slots : List ℕ) (reader : ℕ) where
+  abbrev pub beside : ReaderWork → ReaderMove
+  beside work = readerAdvance (panel .m) (panel .reach) work (wordRead slots (readerAccess (panel .m) work))
+
+  replaced-twice : (first second : ReaderWork) → withWork (withWork panel reader first) reader second ≡ withWork panel reader second
+  unfolding withWork
+  replaced-twice first second =
+      ap
+      (λ (readers : List Reader).
+      record {
+        m = panel .m;
+        k = panel .k;
+        reach = panel .reach;
+        counts = panel .counts;
+        writer = panel .writer;
+        readers = readers;
+        stations = panel .stations;
+      })
+      (set-set (panel .readers) reader (record { work = first }) (record { work = second }))
+
+  pub step-beside : (work : ReaderWork) (answer : Answer) (next : ReaderMove) → AtWork reader (outcome (withWork panel reader work) slots answer) → isUnderway answer ≡ true → next ≡ beside work → readerStep reader (outcome (withWork panel reader work) slots answer) ≡ outcome (withWork panel reader (next .work)) slots (next .answer)
+  unfolding readerStep withWork move
+  step-beside work answer next p e same-move =
+      let same = work-replaced panel reader work (omega (arith, p .held, length-set (panel .readers) reader (record { work = work }))) in
+      let works = not-true (isIdle (workOf (withWork panel reader work) reader)) (sym (p .busy) ∙ e) in
+      allowed reader (withWork panel reader work) slots (p .fits) (p .known) (p .held) works
+      ∙ ap (λ (w : ReaderWork). outcome (withWork (withWork panel reader work) reader (beside w .work)) slots (beside w .answer)) same
+      ∙ ap (λ (after : Record). outcome after slots (beside work .answer)) (replaced-twice work (beside work .work))
+      ∙ ap (λ (m : ReaderMove). outcome (withWork panel reader (m .work)) slots (m .answer)) (sym same-move)
+
+-- a reader that is given work
+pub given-work : (panel : Record) (slots : List ℕ) (reader : ℕ) (work : ReaderWork) (answer : Answer) → inRange (length slots) (withWork panel reader work) ≡ true → reader ≤ 15 → length (panel .readers) ≡ 16 → isIdle work ≡ false → isUnderway answer ≡ true → AtWork reader (outcome (withWork panel reader work) slots answer)
+unfolding withWork
+given-work panel slots reader work answer fits known sixteen works e =
+    record {
+      fits = fits;
+      known = known;
+      held = omega (arith, length-set (panel .readers) reader (record { work = work }));
+      busy = e ∙ ap not (sym works) ∙ ap (λ (w : ReaderWork). not (isIdle w)) (sym (work-replaced panel reader work (omega arith)));
+    }
+
+-- a lookup that has been started: in range, with k + 1 steps to go
+module _ (panel : Record) (slots : List ℕ) (reader point : ℕ) (e : lookupRefusal (length slots) panel reader point ≡ 0) where
   work : ReaderWork
   work = LookingUp (record { point = point; search = Unread })
 
-  begun : Outcome
-  begun = outcome (withWork panel reader work) slots started
-
-  known-reader : reader ≤ 15
+  pub known-reader : reader ≤ 15
   unfolding lookupRefusal
   known-reader =
       let after-1 = not-refused (not (inRange (length slots) panel)) 1 _ (omega arith) e in
       let after-3 = not-refused (ltb 15 reader) 3 _ (omega arith) (after-1 .1) in
       omega (arith, ltb-false 15 reader (after-3 .0))
 
-  given : workOf (withWork panel reader work) reader ≡ work
-  given = work-replaced panel reader work (omega (arith, known-reader))
-
-  begun-fits : inRange (length slots) (withWork panel reader work) ≡ true
-  unfolding lookupRefusal work workInRange lookupInRange searchInRange
+  pub begun-fits : inRange (length slots) (withWork panel reader (LookingUp (record { point = point; search = Unread }))) ≡ true
+  unfolding lookupRefusal workInRange lookupInRange searchInRange
   begun-fits =
       let after-1 = not-refused (not (inRange (length slots) panel)) 1 _ (omega arith) e in
       let after-3 = not-refused (ltb 15 reader) 3 _ (omega arith) (after-1 .1) in
       let after-2 = not-refused (not (validPoint point)) 2 _ (omega arith) (after-3 .1) in
-      with-work-in-range (length slots) panel (not-false (inRange (length slots) panel) (after-1 .0)) reader work
+      with-work-in-range (length slots) panel (not-false (inRange (length slots) panel) (after-1 .0)) reader _
       (both-true (validPoint point) true (not-false (validPoint point) (after-2 .0)) refl)
 
-  begins : AtWork reader begun
-  unfolding begun withWork isUnderway isIdle work
-  begins =
-      record {
-        fits = begun-fits;
-        known = known-reader;
-        held = omega (arith, known-reader, length-set (panel .readers) reader (record { work = work }));
-        busy = ap (λ (w : ReaderWork). not (isIdle w)) (sym given);
-      }
+  begins : length (panel .readers) ≡ 16 → AtWork reader (outcome (withWork panel reader work) slots started)
+  unfolding work isUnderway isIdle
+  begins sixteen = given-work panel slots reader work started begun-fits known-reader sixteen refl refl
 
-  begins-with : left reader begun ≤ panel .k + 1
-  unfolding begun left withWork work stepsLeft searchLeft
-  begins-with = omega (arith, ap (stepsLeft (panel .m) (panel .k)) given)
+  begins-with : length (panel .readers) ≡ 16 → left reader (outcome (withWork panel reader work) slots started) ≤ panel .k + 1
+  unfolding left withWork work stepsLeft searchLeft
+  begins-with sixteen = omega (arith, ap (stepsLeft (panel .m) (panel .k)) (work-replaced panel reader work (omega (arith, known-reader))))
 
 -- "ending on the point's slot with its value, else after the r-th with 7"
 pub whole-lookup-ends : (panel : Record) (slots : List ℕ) (reader point : ℕ) → length (panel .readers) ≡ 16 → isUnderway (wholeLookup panel slots reader point .answer) ≡ false
-unfolding wholeLookup startLookup startReader unlessRefused isUnderway begun work
+unfolding wholeLookup startLookup startReader unlessRefused isUnderway work
 whole-lookup-ends panel slots reader point h = go (lookupRefusal (length slots) panel reader point) refl
   where
     go : (n : ℕ) → lookupRefusal (length slots) panel reader point ≡ n → isUnderway (untilEnded (readerStep reader) (panel .k + 1) (unlessRefused n panel slots (outcome (withWork panel reader (LookingUp (record { point = point; search = Unread }))) slots started)) .answer) ≡ false
     go zero e =
-        budget-suffices (readerStep reader) (AtWork reader) (left reader) (takes-one reader) (panel .k + 1) (begun panel slots reader point h e) (begins panel slots reader point h e)
-        (begins-with panel slots reader point h e)
+        budget-suffices (readerStep reader) (AtWork reader) (left reader) (takes-one reader) (panel .k + 1)
+        (outcome (withWork panel reader (work panel slots reader point e)) slots started) (begins panel slots reader point e h)
+        (begins-with panel slots reader point e h)
     go (suc n) e = ap (λ (after : Outcome). isUnderway (after .answer)) (has-ended (readerStep reader) (panel .k + 1) (outcome panel slots (refused (suc n))) refl)

@@ -1,13 +1,25 @@
 // A whole lookup.
+ghost use Prim.Native.Nat.{_≤_};
+ghost use mathlib.Core.Bool.{true, false};
 ghost use mathlib.Core.Path.{_≡_};
+ghost use lib.ListN.{length};
+ghost use Rattle.record.specs.Parts.{withWork};
+ghost use Rattle.record_ranges.specs.Ranges.{inRange};
 ghost use Rattle.answers.specs.Answers.{paperReader, isUnderway, outcome, underway};
+ghost use Rattle.reader_step.specs.Reader.{isIdle};
 ghost use Rattle.whole_operations.specs.Whole.{untilEnded, readerStep, wholeLookup};
 use answers::ReaderAnswer;
-use answers::StartAnswer;
 use reader_step::ReaderOutcome;
-use reader_step::step_reader;
+use reader_step::reader_access;
+use reader_step::reader_advance;
+use record::Lookup;
+use record::ReaderWork;
 use record::Record;
-use table::start_lookup;
+use record::Search;
+use record::parts::with_work;
+use refusal::Judged;
+use search::access::word_read;
+use table::judge_lookup;
 
 fn goes_on(answer: ReaderAnswer) -> bool
     ensures { λ r. ⌜ r ≡ isUnderway (paperReader answer) ⌝ }
@@ -22,25 +34,33 @@ fn goes_on(answer: ReaderAnswer) -> bool
     }
 }
 
-// Steps of a reader whose work is underway, to its end or as many as the budget allows.
-fn reader_steps(panel: Record, slots: &[u64], reader: u32, budget: u64) -> ReaderOutcome
-    ensures { λ r. ⌜ outcome (r .panel) (now (slots .entry)) (paperReader (r .answer)) ≡ untilEnded (readerStep reader) budget (outcome panel (now (slots .entry)) underway) ⌝ }
+// Steps of a reader with this work, to the end or as many as the budget allows. The record was judged
+// when the operation was started, and a step changes nothing in it but this work, so that no step needs
+// to judge the record or to make a new one.
+fn reader_steps(
+    panel: Record,
+    slots: &[u64],
+    reader: u32,
+    begun: ReaderWork,
+    budget: u64,
+) -> ReaderOutcome
+    requires { ⌜ (inRange (length (now slots)) (withWork panel reader begun) ≡ true) × (reader ≤ 15) × (isIdle begun ≡ false) ⌝ }
+    ensures { λ r. ⌜ outcome (r .panel) (now (slots .entry)) (paperReader (r .answer)) ≡ untilEnded (readerStep reader) budget (outcome (withWork panel reader begun) (now (slots .entry)) underway) ⌝ }
 {
-    let mut after = ReaderOutcome {
-        panel: panel,
-        answer: ReaderAnswer::Underway,
-    };
+    let mut work = begun;
+    let mut answer = ReaderAnswer::Underway;
     let mut left = budget;
     while 0 < left {
-        let current = after.panel;
-        after = step_reader(current, slots, reader);
-        let answer = after.answer;
-        if !goes_on(answer) {
-            return after;
-        }
-        left -= 1;
+        let word = word_read(slots, reader_access(work, panel.m));
+        let next = reader_advance(work, panel.m, panel.reach, word);
+        work = next.work;
+        answer = next.answer;
+        left = if goes_on(answer) { left - 1 } else { 0 };
     }
-    after
+    ReaderOutcome {
+        panel: with_work(panel, reader, work),
+        answer: answer,
+    }
 }
 
 // Looks a point up, from the start to the end.
@@ -48,14 +68,15 @@ pub fn whole_lookup(panel: Record, slots: &[u64], reader: u32, point: u32) -> Re
     ensures { λ r. ⌜ outcome (r .panel) (now (slots .entry)) (paperReader (r .answer)) ≡ wholeLookup panel (now (slots .entry)) reader point ⌝ }
 {
     let budget = panel.k as u64 + 1;
-    let begun = start_lookup(panel, slots, reader, point);
-    let started = begun.panel;
-    let answer = begun.answer;
-    match answer {
-        StartAnswer::Refused(refusal) => ReaderOutcome {
-            panel: started,
+    let begun = ReaderWork::LookingUp(Lookup {
+        point: point,
+        search: Search::Unread,
+    });
+    match judge_lookup(panel, slots.len(), reader, point) {
+        Judged::Refused(refusal) => ReaderOutcome {
+            panel: panel,
             answer: ReaderAnswer::Refused(refusal),
         },
-        StartAnswer::Started => reader_steps(started, slots, reader, budget),
+        Judged::Allowed => reader_steps(panel, slots, reader, begun, budget),
     }
 }

@@ -10,13 +10,18 @@ ghost use Rattle.moves.specs.Moves.{isIdle};
 ghost use Rattle.writer.specs.WriterFacts.{Begun};
 use answers::StartAnswer;
 use answers::WriterAnswer;
+use moves::memory::perform;
+use moves::update::Update;
+use moves::update::with_update;
 use record::Record;
+use record::parts::with_writer;
 use table::StartOutcome;
 use writer::WriterOutcome;
-use writer::run_step;
 use writer::start_change;
 use writer::start_put;
 use writer::start_removal;
+use writer::writer_access;
+use writer::writer_advance;
 
 fn goes_on(answer: WriterAnswer) -> bool
     ensures { λ r. ⌜ r ≡ isUnderway (paperWriter answer) ⌝ }
@@ -33,26 +38,31 @@ fn goes_on(answer: WriterAnswer) -> bool
 }
 
 // Steps of a writer at work, to the end or as many as the budget allows. The record was judged when the
-// operation was started, and every step keeps it in range, so that no step needs to judge it again.
+// operation was started, and every step keeps it in range, so that no step needs to judge it again. The
+// writer's work is kept beside the record, and goes back into it at the end.
 fn writer_steps(panel: Record, slots: &mut [u64], budget: u64) -> WriterOutcome
     requires { ⌜ (inRange (length (now slots)) panel ≡ true) × (isIdle (panel .writer) ≡ false) ⌝ }
     ensures { λ r. ⌜ outcome (r .panel) (now (slots .exit)) (paperWriter (r .answer)) ≡ untilEnded writerStep budget (outcome panel (now (slots .entry)) underway) ⌝ }
 {
-    let mut after = WriterOutcome {
-        panel: panel,
-        answer: WriterAnswer::Underway,
-    };
+    let mut held = panel;
+    let mut work = panel.writer;
+    let mut answer = WriterAnswer::Underway;
     let mut left = budget;
     while 0 < left {
-        let current = after.panel;
-        after = run_step(current, slots);
-        let answer = after.answer;
-        if !goes_on(answer) {
-            return after;
+        let word = perform(slots, writer_access(held, work));
+        let next = writer_advance(held, work, word);
+        work = next.work;
+        answer = next.answer;
+        let update = next.update;
+        if let Update::Nothing = update {} else {
+            held = with_update(held, update);
         }
-        left -= 1;
+        left = if goes_on(answer) { left - 1 } else { 0 };
     }
-    after
+    WriterOutcome {
+        panel: with_writer(held, work),
+        answer: answer,
+    }
 }
 
 // An operation that has been started, unless it was refused, run to its end.

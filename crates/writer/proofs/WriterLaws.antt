@@ -47,7 +47,7 @@ writer-reach panel (Putting put) word = put-reach (panel .m) (panel .k) (panel .
 writer-reach panel (Changing change) word = change-reach (panel .m) (panel .reach) change word
 writer-reach panel (Removing removal) word = removal-reach panel removal word
 
-slots-length : (slots : List ℕ) (access : WriterAccess) → length (slotsAfter slots access) ≡ length slots
+pub slots-length : (slots : List ℕ) (access : WriterAccess) → length (slotsAfter slots access) ≡ length slots
 unfolding slotsAfter
 slots-length slots (Read access) = refl
 slots-length slots (StoreReach reach) = refl
@@ -93,10 +93,6 @@ module _ (panel : Record) (slots : List ℕ) (fits : inRange (length slots) pane
   pub run-less : writerLeft (writerRuns panel slots (panel .writer) .panel .k) (writerRuns panel slots (panel .writer) .panel .reach) (writerRuns panel slots (panel .writer) .panel .writer) + 1 ≤ writerLeft (panel .k) (panel .reach) (panel .writer)
   unfolding writerRuns moved withWriter move access
   run-less = transport (λ j. writerLeft (sym (leaves .k-stays) j) (sym (leaves .reach-after) j) (move .work) + 1 ≤ writerLeft (panel .k) (panel .reach) (panel .writer)) (one .less)
-
-pub run-length : (panel : Record) (slots : List ℕ) → length (writerRuns panel slots (panel .writer) .slots) ≡ length slots
-unfolding writerRuns moved
-run-length panel slots = slots-length slots (writerAccess panel (panel .writer))
 
 -- what holds of a writer at work and right after its last step: the record in range, and work exactly while the operation is underway
 pub record AtWork (now : Outcome) : Type 0 where

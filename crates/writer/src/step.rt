@@ -43,7 +43,7 @@ pub(crate) fn has_no_work(work: WriterWork) -> bool
 }
 
 // Part 1: the access that comes next.
-fn writer_access(panel: Record, work: WriterWork) -> WriterAccess
+pub fn writer_access(panel: Record, work: WriterWork) -> WriterAccess
     ensures { λ r. ⌜ r ≡ writerAccess panel work ⌝ }
 {
     match work {
@@ -55,7 +55,7 @@ fn writer_access(panel: Record, work: WriterWork) -> WriterAccess
 }
 
 // Part 3: what follows from the reach, or from the word read or stored.
-fn writer_advance(panel: Record, work: WriterWork, word: u64) -> Moved
+pub fn writer_advance(panel: Record, work: WriterWork, word: u64) -> Moved
     ensures { λ r. ⌜ paperMoved r ≡ writerAdvance panel work word ⌝ }
 {
     match work {
@@ -97,8 +97,8 @@ fn finish(panel: Record, next: Moved) -> WriterOutcome
     }
 }
 
-// The three parts of a step, for a caller that knows what `step_writer` judges first.
-pub fn run_step(panel: Record, slots: &mut [u64]) -> WriterOutcome
+// The three parts of a step.
+fn run_step(panel: Record, slots: &mut [u64]) -> WriterOutcome
     ensures { λ r. ⌜ outcome (r .panel) (now (slots .exit)) (paperWriter (r .answer)) ≡ writerRuns panel (now (slots .entry)) (panel .writer) ⌝ }
 {
     let work = panel.writer;

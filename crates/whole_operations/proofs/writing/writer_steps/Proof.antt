@@ -1,60 +1,53 @@
 -- `whole_operations::writing::writer_steps` meets its contract: what is left to do from here comes to the same as the whole.
 -- Assumes nothing.
-use Prim.Native.Nat.{_-_}
-use mathlib.Core.Bool.{true, not}
-use mathlib.Core.Path.{_≡_, refl, _∙_, sym, ap, transport}
+use mathlib.Core.Bool.{not}
+use mathlib.Core.Logic.{⊎-elim}
+use mathlib.Core.Path.{_≡_, refl, _∙_, sym, ap}
 use native.Mathlib.Omega.{arith}
-use borrow.Author.Tests.{not-true, not-false}
 use borrow.Author.Needs.{needs}
 use lib.ListN.{length}
-use Rattle.answers.specs.Answers.{underway, isUnderway, Outcome, outcome, paperWriter}
-use Rattle.whole_operations.specs.Whole.{untilEnded, writerStep}
-use Rattle.whole_operations.proofs.WholeLaws.{one-step, has-ended, used-up}
-use Rattle.writer.proofs.WriterLaws.{AtWork, works, allowed, run-at-work, run-length}
-use Rattle.moves.specs.Moves.{isIdle}
+use Rattle.record.specs.declared.Record.{Record}
+use Rattle.record.specs.Parts.{withWriter}
+use Rattle.answers.specs.Answers.{underway, isUnderway, outcome, paperWriter}
+use Rattle.moves.specs.Moves.{updated, paperMoved}
+use Rattle.writer.proofs.WriterLaws.{slots-length, AtWork}
+use Rattle.whole_operations.specs.Whole.{writerStep}
+use Rattle.whole_operations.proofs.WholeLaws.{OnTheWay, arrives, goes-on, stops}
+use Rattle.whole_operations.proofs.WholeEnds.{stays-at-work}
+use Rattle.whole_operations.proofs.WorkBeside.{step-beside}
 use Rattle.whole_operations.proofs.writing.writer_steps.Statement.{statement}
 use Rattle.whole_operations.proofs.writing.writer_steps.Tie as tie
 
--- `whole_operations::writing::writer_steps` meets its contract: what is left to do from here comes to the same as the whole.
--- Assumes nothing.
-
 abbrev Inv-loop : tie.InvT-loop
-Inv-loop slots₀ budget after₀ left₀ slots after left =
+Inv-loop slots₀ budget held₀ work₀ answer₀ left₀ slots held work answer left =
     (length slots ≡ length slots₀)
-    × AtWork (outcome (after .panel) slots (paperWriter (after .answer)))
-    × (isUnderway (paperWriter (after .answer)) ≡ true)
-    × (untilEnded writerStep left (outcome (after .panel) slots (paperWriter (after .answer)))
-    ≡ untilEnded writerStep budget (outcome (after₀ .panel) slots₀ underway))
+    × OnTheWay writerStep AtWork (outcome held₀ slots₀ underway) budget left (outcome (withWriter held work) slots (paperWriter answer))
 
 abbrev μ-loop : tie.MeasureT-loop
-μ-loop slots₀ budget after₀ left₀ slots after left = left
+μ-loop slots₀ budget held₀ work₀ answer₀ left₀ slots held work answer left = left
 
 loop-holds : tie.Need-loop-holds Inv-loop μ-loop
-unfolding isUnderway isIdle
-loop-holds c = (refl, record { fits = c .before .pre .0; busy = ap not (sym (c .before .pre .1)) }, refl, refl)
+unfolding isUnderway withWriter
+loop-holds c =
+    (refl, record { holds = record { fits = c .before .pre .0; busy = ap not (sym (c .before .pre .1)) }; goes = λ h. refl; same = refl })
 
-run-step-requires : tie.Need-run-step-requires Inv-loop μ-loop
-run-step-requires c κs = search needs
+writer-access-requires : tie.Need-writer-access-requires Inv-loop μ-loop
+writer-access-requires c κs = search needs
+
+perform-requires : tie.Need-perform-requires Inv-loop μ-loop
+perform-requires c κs = search needs
+
+writer-advance-requires : tie.Need-writer-advance-requires Inv-loop μ-loop
+writer-advance-requires c κs = search needs
+
+enum-told : tie.Need-enum-told Inv-loop μ-loop
+enum-told c = search needs
+
+with-update-requires : tie.Need-with-update-requires Inv-loop μ-loop
+with-update-requires c κs = search needs
 
 goes-on-requires : tie.Need-goes-on-requires Inv-loop μ-loop
 goes-on-requires c κs = search needs
-
-same-length : tie.Need-same-length Inv-loop μ-loop
-same-length c = ap (λ (o : Outcome). length (o .slots)) (c .before .before .before .before .run-step .ensures) ∙ run-length (c .before .before .before .before .before .before .before .before .loop .after .panel) (c .before .before .before .before .before .before .before .before .loop .slots) ∙ c .before .before .before .before .before .before .before .before .loop .inv .0
-
-returns : tie.Need-returns Inv-loop μ-loop
-unfolding writerStep
-returns c =
-    let l = c .before .before .before .before .before .before .before .before .loop in
-    let before = outcome (l .after .panel) (l .slots) (paperWriter (l .after .answer)) in
-    let working = works before (l .inv .1) (l .inv .2) in
-    let ran = c .before .before .before .before .run-step .ensures in
-    let step = ran ∙ sym (allowed (l .after .panel) (l .slots) (l .inv .1 .fits) working) in
-    let r = c .before .before .before .before .run-step .result in
-    sym (has-ended writerStep (l .left - 1) (outcome (r .panel) _ (paperWriter (r .answer))) (sym (c .before .goes-on .ensures) ∙ not-true _ (c .if1 .taken)))
-    ∙ ap (untilEnded writerStep (l .left - 1)) step
-    ∙ sym (one-step writerStep (l .left) before (omega (arith, c .before .before .before .before .before .before .before .loop-test)) (l .inv .2))
-    ∙ l .inv .3
 
 sub-left : tie.Need-sub-left Inv-loop μ-loop
 sub-left c = search needs
@@ -63,29 +56,55 @@ loop-less : tie.Need-loop-less Inv-loop μ-loop
 loop-less c = omega arith
 
 loop-again : tie.Need-loop-again Inv-loop μ-loop
-unfolding writerStep
+unfolding updated
 loop-again c =
-    let l = c .before .before .before .before .before .before .before .before .loop in
-    let before = outcome (l .after .panel) (l .slots) (paperWriter (l .after .answer)) in
-    let working = works before (l .inv .1) (l .inv .2) in
-    let ran = c .before .before .before .before .run-step .ensures in
-    let step = ran ∙ sym (allowed (l .after .panel) (l .slots) (l .inv .1 .fits) working) in (
-      ap (λ (o : Outcome). length (o .slots)) ran ∙ run-length (l .after .panel) (l .slots) ∙ l .inv .0,
-      transport (λ j. AtWork (sym ran j)) (run-at-work (l .after .panel) (l .slots) (l .inv .1 .fits) working),
-      sym (c .before .goes-on .ensures) ∙ not-false _ (c .if1 .left),
-      ap (untilEnded writerStep (l .left - 1)) step
-          ∙ sym (one-step writerStep (l .left) before (omega (arith, c .before .before .before .before .before .before .before .loop-test)) (l .inv .2))
-          ∙ l .inv .3,
+    let l = c .before .before .before .before .before .before .before .before .before .before .loop in
+    let next = c .before .before .before .writer-advance .result in
+    let more = c .before .before .before .before .before .before .before .before .before .loop-test in
+    let updates =
+    ⊎-elim
+    (λ kept. kept .2 ∙ sym (ap (updated (l .held)) (kept .1 .given .1)))
+    (λ new. new .2 ∙ new .1 .ensures)
+    (c .before .before .match .came) in
+    let takes =
+    step-beside (l .held) (c .before .before .match .held) (l .slots) _ (l .work) (paperWriter (l .answer)) _ _ (paperMoved next) (l .inv .1 .holds)
+    (l .inv .1 .goes (omega arith)) (c .before .before .before .before .before .before .before .writer-access .ensures) (c .before .before .before .before .before .before .perform .ensures .0) (c .before .before .before .before .before .before .perform .ensures .1) (c .before .before .before .writer-advance .ensures) updates in (
+      ap length (c .before .before .before .before .before .before .perform .ensures .1) ∙ slots-length (l .slots) _ ∙ l .inv .0,
+      goes-on writerStep AtWork stays-at-work _ _ (l .left) _ (l .inv .1) (omega arith) _ takes (sym (c .before .goes-on .ensures) ∙ c .if1 .taken),
     )
 
-same-length-2 : tie.Need-same-length-2 Inv-loop μ-loop
-same-length-2 c = c .before .loop .inv .0
+loop-less-2 : tie.Need-loop-less-2 Inv-loop μ-loop
+loop-less-2 c = omega (arith, c .before .before .before .before .before .before .before .before .before .loop-test)
 
-returns-2 : tie.Need-returns-2 Inv-loop μ-loop
-returns-2 c =
-    let l = c .before .loop in
-    let before = outcome (l .after .panel) (l .slots) (paperWriter (l .after .answer)) in
-    sym (used-up writerStep (l .left) before (omega (arith, c .loop-test))) ∙ l .inv .3
+loop-again-2 : tie.Need-loop-again-2 Inv-loop μ-loop
+unfolding updated
+loop-again-2 c =
+    let l = c .before .before .before .before .before .before .before .before .before .before .loop in
+    let next = c .before .before .before .writer-advance .result in
+    let more = c .before .before .before .before .before .before .before .before .before .loop-test in
+    let updates =
+    ⊎-elim
+    (λ kept. kept .2 ∙ sym (ap (updated (l .held)) (kept .1 .given .1)))
+    (λ new. new .2 ∙ new .1 .ensures)
+    (c .before .before .match .came) in
+    let takes =
+    step-beside (l .held) (c .before .before .match .held) (l .slots) _ (l .work) (paperWriter (l .answer)) _ _ (paperMoved next) (l .inv .1 .holds)
+    (l .inv .1 .goes (omega arith)) (c .before .before .before .before .before .before .before .writer-access .ensures) (c .before .before .before .before .before .before .perform .ensures .0) (c .before .before .before .before .before .before .perform .ensures .1) (c .before .before .before .writer-advance .ensures) updates in (
+      ap length (c .before .before .before .before .before .before .perform .ensures .1) ∙ slots-length (l .slots) _ ∙ l .inv .0,
+      stops writerStep AtWork stays-at-work _ _ (l .left) _ (l .inv .1) (omega arith) _ takes (sym (c .before .goes-on .ensures) ∙ c .if1 .left),
+    )
+
+with-writer-requires : tie.Need-with-writer-requires Inv-loop μ-loop
+with-writer-requires c κs = search needs
+
+same-length : tie.Need-same-length Inv-loop μ-loop
+same-length c = c .before .before .loop .inv .0
+
+returns : tie.Need-returns Inv-loop μ-loop
+returns c =
+    let l = c .before .before .loop in
+    ap (λ (panel : Record). outcome panel (l .slots) (paperWriter (l .answer))) (c .with-writer .ensures)
+    ∙ arrives writerStep AtWork stays-at-work _ _ (l .left) _ (l .inv .1) (omega (arith, c .before .loop-test))
 
 pub writer-steps-spec : {M : Type 1} → statement M
 writer-steps-spec =
@@ -94,12 +113,17 @@ writer-steps-spec =
     Inv-loop
     μ-loop
     loop-holds
-    run-step-requires
+    writer-access-requires
+    perform-requires
+    writer-advance-requires
+    enum-told
+    with-update-requires
     goes-on-requires
-    same-length
-    returns
     sub-left
     loop-less
     loop-again
-    same-length-2
-    returns-2)
+    loop-less-2
+    loop-again-2
+    with-writer-requires
+    same-length
+    returns)

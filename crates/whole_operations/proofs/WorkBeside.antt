@@ -1,0 +1,87 @@
+-- The parts of the writer's step look at the work that they are given, not at the work in the record: so a loop may keep the work beside the
+-- record, and the step of the record with that work put back comes to the same.
+-- Assumes nothing.
+use Prim.Native.Nat.{ℕ, zero, suc}
+use mathlib.Core.Path.{_≡_, refl, ap, _∙_, sym}
+use mathlib.Core.Bool.{true, cond}
+use mathlib.Core.List.{List}
+use lib.Dec.{eqb}
+use Rattle.record.specs.declared.Record.{Record}
+use Rattle.record.specs.declared.Removal.{Removal}
+use Rattle.record.specs.declared.RemovalStage.{RemovalStage}
+use Rattle.record.specs.declared.RemovalStage.the-variants.{Searching, Found, Lowering}
+use Rattle.record.specs.declared.WriterWork.{WriterWork}
+use Rattle.record.specs.declared.WriterWork.the-variants.{Idle, Putting, Changing, Removing}
+use Rattle.record.specs.Parts.{countOf, withCount, withReach, withStation, withWriter}
+use Rattle.answers.specs.Answers.{Answer, removed, isUnderway, outcome}
+use Rattle.moves.specs.declared.memory.WriterAccess.{WriterAccess}
+use Rattle.moves.specs.declared.memory.WriterAccess.the-variants.{StoreReach}
+use Rattle.moves.specs.declared.update.Update.{Update}
+use Rattle.moves.specs.declared.update.Update.the-variants.{Nothing, Reach, Counted, Uncounted, Answered}
+use Rattle.moves.specs.Counts.{counted, uncounted, largestUpTo, largestCounted}
+use Rattle.moves.specs.Memory.{accessRead, slotsAfter}
+use Rattle.moves.specs.Moves.{WriterMove, ends, updated}
+use Rattle.removal.specs.Removal.{removalStageAccess, removalAccess, isLast, removalEmpties, removalLowers, removalStageAdvance, removalAdvance}
+use Rattle.writer.specs.Step.{writerAccess, writerAdvance, moved, writerRuns}
+use Rattle.writer.proofs.WriterLaws.{AtWork, works, allowed}
+use Rattle.whole_operations.specs.Whole.{writerStep}
+
+module _ (panel : Record) (old : WriterWork) where
+  largest : (n : ℕ) → largestUpTo (withWriter panel old) n ≡ largestUpTo panel n
+  unfolding largestUpTo countOf withWriter
+  largest zero = refl
+  largest (suc i) = ap (λ (below : ℕ). cond (eqb (countOf panel (suc i)) 0) below (suc i)) (largest i)
+
+  removal-access : (removal : Removal) (stage : RemovalStage) → removalStageAccess (withWriter panel old) removal stage ≡ removalStageAccess panel removal stage
+  unfolding removalStageAccess withWriter largestCounted
+  removal-access removal (Searching search) = refl
+  removal-access removal (Found place) = refl
+  removal-access removal Lowering = ap StoreReach (largest (panel .k))
+
+  access : (work : WriterWork) → writerAccess (withWriter panel old) work ≡ writerAccess panel work
+  unfolding writerAccess withWriter removalAccess
+  access Idle = refl
+  access (Putting put) = refl
+  access (Changing change) = refl
+  access (Removing removal) = removal-access removal (removal .stage)
+
+  removal-advance : (removal : Removal) (stage : RemovalStage) (word : ℕ) → removalStageAdvance (withWriter panel old) removal stage word ≡ removalStageAdvance panel removal stage word
+  unfolding removalStageAdvance removalEmpties isLast uncounted withCount countOf removalLowers largestCounted withWriter
+  removal-advance removal (Searching search) word = refl
+  removal-advance removal (Found place) word = refl
+  removal-advance removal Lowering word = ap (λ (reach : ℕ). ends (Reach reach) (removed reach)) (largest (panel .k))
+
+  advance : (work : WriterWork) (word : ℕ) → writerAdvance (withWriter panel old) work word ≡ writerAdvance panel work word
+  unfolding writerAdvance withWriter removalAdvance
+  advance Idle word = refl
+  advance (Putting put) word = refl
+  advance (Changing change) word = refl
+  advance (Removing removal) word = removal-advance removal (removal .stage) word
+
+  update : (change : Update) (new : WriterWork) → withWriter (updated (withWriter panel old) change) new ≡ withWriter (updated panel change) new
+  unfolding updated withWriter withReach withCount withStation counted uncounted countOf
+  update Nothing new = refl
+  update (Reach reach) new = refl
+  update (Counted index) new = refl
+  update (Uncounted index) new = refl
+  update (Answered command) new = refl
+
+  runs : (slots : List ℕ) (work : WriterWork) → writerRuns (withWriter panel old) slots work ≡ writerRuns panel slots work
+  unfolding writerRuns moved
+  runs slots work =
+      let word = accessRead slots (writerAccess panel work) in
+      let move = ap (λ (a : WriterAccess). writerAdvance (withWriter panel old) work (accessRead slots a)) (access work) ∙ advance work word in
+      let after = writerAdvance panel work word in
+      (λ j. outcome (withWriter (updated (withWriter panel old) (move j .update)) (move j .work)) (slotsAfter slots (access work j)) (move j .answer))
+      ∙ (λ j. outcome (update (after .update) (after .work) j) (slotsAfter slots (writerAccess panel work)) (after .answer))
+
+-- a step of the record with this work put back, from what its three parts gave for the record without it
+pub step-beside : (panel after : Record) (slots stored : List ℕ) (work : WriterWork) (answer : Answer) (access : WriterAccess) (word : ℕ) (move : WriterMove) → AtWork (outcome (withWriter panel work) slots answer) → isUnderway answer ≡ true → access ≡ writerAccess panel work → word ≡ accessRead slots access → stored ≡ slotsAfter slots access → move ≡ writerAdvance panel work word → after ≡ updated panel (move .update) → writerStep (outcome (withWriter panel work) slots answer) ≡ outcome (withWriter after (move .work)) stored (move .answer)
+unfolding writerStep withWriter writerRuns moved
+step-beside panel after slots stored work answer access word move p e same-access same-word same-slots same-move same-update =
+    let moves = same-move ∙ ap (writerAdvance panel work) (same-word ∙ ap (accessRead slots) same-access) in
+    allowed (withWriter panel work) slots (p .fits) (works (outcome (withWriter panel work) slots answer) p e)
+    ∙ runs panel work slots work
+    ∙ sym
+    ((λ j. outcome (withWriter (same-update j) (move .work)) (same-slots j) (move .answer))
+    ∙ (λ j. outcome (withWriter (updated panel (moves j .update)) (moves j .work)) (slotsAfter slots (same-access j)) (moves j .answer)))

@@ -11,7 +11,6 @@ use moves::memory::store_word;
 use moves::update::Moved;
 use moves::update::Update;
 use moves::update::ended;
-use moves::update::underway;
 use record::Record;
 use record::Removal;
 use record::RemovalStage;

@@ -15,14 +15,12 @@ use Rattle.record.specs.declared.RemovalStage.the-variants.{Searching as Remova
 use Rattle.record.specs.declared.WriterWork.{WriterWork}
 use Rattle.record.specs.declared.WriterWork.the-variants.{Putting, Changing, Removing}
 use Rattle.record.specs.Parts.{withWriter}
-use Rattle.record_ranges.specs.Ranges.{inRange}
 use Rattle.answers.specs.Answers.{started, refused, isUnderway, Outcome, outcome, unlessRefused}
 use Rattle.whole_operations.specs.Whole.{untilEnded, writerStep, wholePut, wholeChange, wholeRemoval}
 use Rattle.search.proofs.SearchLaws.{searchLeft}
 use Rattle.whole_operations.proofs.WholeLaws.{budget-suffices, has-ended}
 use Rattle.moves.specs.Moves.{isIdle}
 use Rattle.moves.proofs.MoveLaws.{putSearchLeft, putLeft, changeLeft, removalLeft, writerLeft}
-use Rattle.writer.specs.Step.{writerRuns}
 use Rattle.writer.specs.Starts.{startRefusal, startWriter, startPut, startChange, startRemoval}
 use Rattle.writer.specs.WriterFacts.{Begun}
 use Rattle.writer.proofs.WriterLaws.{AtWork, works, allowed, run-at-work, run-less, put-begins, change-begins, removal-begins}

@@ -1,12 +1,17 @@
 -- Laws of whole operations: a step while the operation is underway, none once it has ended or the budget is used up;
 -- a loop that takes these steps; and when a budget suffices.
 -- Assumes nothing.
-use Prim.Native.Nat.{ℕ, zero, suc, _+_, _-_, _≤_}
+use Prim.Native.Nat.{ℕ, zero, suc, _+_, _-_, _≤_, _<_}
 use mathlib.Core.Path.{_≡_, refl, ap, _∙_, sym, transport}
 use mathlib.Core.Bool.{Bool, true, false, cond}
 use native.Mathlib.Omega.{arith}
 use Rattle.answers.specs.Answers.{isUnderway, Outcome}
 use Rattle.whole_operations.specs.Whole.{untilEnded}
+
+-- a step that is taken is one less
+pub fewer : (left left-after : ℕ) (goes-on : Bool) → 1 ≤ left → left-after ≡ cond goes-on (left - 1) 0 → left-after < left
+fewer left left-after true h e = omega arith
+fewer left left-after false h e = omega arith
 
 module _ (step : Outcome → Outcome) where
   pub one-step : (n : ℕ) (now : Outcome) → 1 ≤ n → isUnderway (now .answer) ≡ true → untilEnded step n now ≡ untilEnded step (n - 1) (step now)
@@ -45,18 +50,19 @@ module _ (step : Outcome → Outcome) where
       after-same : untilEnded step (left - 1) after ≡ untilEnded step budget start
       after-same = sym (ap (untilEnded step (left - 1)) takes) ∙ sym (one-step left now more (way .goes more)) ∙ way .same
 
-      -- the step did not end the operation
-      pub goes-on : isUnderway (after .answer) ≡ true → OnTheWay P start budget (left - 1) after
-      goes-on e = record { holds = after-holds; goes = λ h. e; same = after-same }
-
-      -- it did: no further step is taken
-      pub stops : isUnderway (after .answer) ≡ false → OnTheWay P start budget 0 after
-      stops e =
-          record {
-            holds = after-holds;
-            goes = λ h. absurd (omega arith);
-            same = used-up 0 after refl ∙ sym (has-ended (left - 1) after e) ∙ after-same;
-          }
+      -- no further step is taken once the operation has ended
+      pub moves-on : (left-after : ℕ) → left-after ≡ cond (isUnderway (after .answer)) (left - 1) 0 → OnTheWay P start budget left-after after
+      moves-on left-after e = go (isUnderway (after .answer)) refl e
+        where
+          go : (b : Bool) → isUnderway (after .answer) ≡ b → left-after ≡ cond b (left - 1) 0 → OnTheWay P start budget left-after after
+          go true underway f =
+              record { holds = after-holds; goes = λ h. underway; same = ap (λ (n : ℕ). untilEnded step n after) f ∙ after-same }
+          go false ended f =
+              record {
+                holds = after-holds;
+                goes = λ h. absurd (omega arith);
+                same = used-up left-after after f ∙ sym (has-ended (left - 1) after ended) ∙ after-same;
+              }
 
   -- a budget suffices that is not below the steps left: P holds of every outcome on the way, and each step takes one of the steps that are left
   module _ (P : Outcome → Type 0) (left : Outcome → ℕ) (takes-one : (now : Outcome) → P now → isUnderway (now .answer) ≡ true → P (step now) × (left (step now) + 1 ≤ left now)) where

@@ -1,4 +1,5 @@
 // Whole operations, for a caller with nothing to do in between: started, and stepped to their end.
+mod budget;
 mod lookup;
 mod writing;
 

@@ -8,6 +8,7 @@ ghost use Rattle.record_ranges.specs.Ranges.{inRange};
 ghost use Rattle.answers.specs.Answers.{paperReader, isUnderway, outcome, underway};
 ghost use Rattle.reader_step.specs.Reader.{isIdle};
 ghost use Rattle.whole_operations.specs.Whole.{untilEnded, readerStep, wholeLookup};
+use crate::budget::left_after;
 use answers::ReaderAnswer;
 use reader_step::ReaderOutcome;
 use reader_step::reader_access;
@@ -55,7 +56,7 @@ fn reader_steps(
         let next = reader_advance(work, panel.m, panel.reach, word);
         work = next.work;
         answer = next.answer;
-        left = if goes_on(answer) { left - 1 } else { 0 };
+        left = left_after(left, goes_on(answer));
     }
     ReaderOutcome {
         panel: with_work(panel, reader, work),

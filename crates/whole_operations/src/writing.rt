@@ -8,6 +8,7 @@ ghost use Rattle.answers.specs.Answers.{paperStart, paperWriter, isUnderway, ou
 ghost use Rattle.whole_operations.specs.Whole.{untilEnded, writerStep, wholePut, wholeChange, wholeRemoval};
 ghost use Rattle.moves.specs.Moves.{isIdle};
 ghost use Rattle.writer.specs.WriterFacts.{Begun};
+use crate::budget::left_after;
 use answers::StartAnswer;
 use answers::WriterAnswer;
 use moves::memory::perform;
@@ -57,7 +58,7 @@ fn writer_steps(panel: Record, slots: &mut [u64], budget: u64) -> WriterOutcome
         if let Update::Nothing = update {} else {
             held = with_update(held, update);
         }
-        left = if goes_on(answer) { left - 1 } else { 0 };
+        left = left_after(left, goes_on(answer));
     }
     WriterOutcome {
         panel: with_writer(held, work),

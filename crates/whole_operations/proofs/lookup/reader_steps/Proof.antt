@@ -1,11 +1,11 @@
 -- `whole_operations::lookup::reader_steps` meets its contract: what is left to do from here comes to the same as the whole.
 -- Assumes nothing.
-use mathlib.Core.Bool.{true, false}
-use mathlib.Core.Path.{_≡_, refl, _∙_, sym, ap}
+use Prim.Native.Nat.{_-_}
+use mathlib.Core.Bool.{Bool, cond}
+use mathlib.Core.Path.{refl, _∙_, ap}
 use native.Mathlib.Omega.{arith}
 use borrow.Author.Needs.{needs}
 use denote.Ref.{now}
-use lib.ListN.{length}
 use Rattle.record.specs.declared.Record.{Record}
 use Rattle.record.specs.Parts.{withWork}
 use Rattle.record.proofs.Numbered.{mapped-length}
@@ -13,7 +13,7 @@ use Rattle.answers.specs.Answers.{paperReader, isUnderway, outcome, underway}
 use Rattle.search.specs.Access.{wordRead}
 use Rattle.reader_step.specs.Reader.{readerAdvance}
 use Rattle.whole_operations.specs.Whole.{readerStep}
-use Rattle.whole_operations.proofs.WholeLaws.{OnTheWay, arrives, goes-on, stops}
+use Rattle.whole_operations.proofs.WholeLaws.{fewer, OnTheWay, arrives, moves-on}
 use Rattle.whole_operations.proofs.WholeLookup.{AtWork, stays-at-work, step-beside, given-work}
 use Rattle.whole_operations.proofs.lookup.reader_steps.Statement.{statement}
 use Rattle.whole_operations.proofs.lookup.reader_steps.Tie as tie
@@ -49,38 +49,23 @@ reader-advance-requires c κs = search needs
 goes-on-requires : tie.Need-goes-on-requires Inv-loop μ-loop
 goes-on-requires c κs = search needs
 
-sub-left : tie.Need-sub-left Inv-loop μ-loop
-sub-left c = search needs
+left-after-requires : tie.Need-left-after-requires Inv-loop μ-loop
+left-after-requires c κs = omega (arith, c .before .before .before .before .loop-test)
 
 loop-less : tie.Need-loop-less Inv-loop μ-loop
-loop-less c = omega arith
+loop-less c = fewer (c .before .before .before .before .before .before .loop .left) _ (c .before .goes-on .result) (omega (arith, c .before .before .before .before .before .loop-test)) (c .left-after .ensures)
 
 loop-again : tie.Need-loop-again Inv-loop μ-loop
 loop-again c =
     let a = c .before .before .before .before .before .before .before .before .args in
     let s = now (a .slots) in
     let l = c .before .before .before .before .before .before .loop in
+    let more = c .before .before .before .before .before .loop-test in
     let word = c .before .before .before .word-read .ensures ∙ ap (wordRead s) (c .before .before .before .before .reader-access .ensures) in
     let move = c .before .before .reader-advance .ensures ∙ ap (readerAdvance (a .panel .m) (a .panel .reach) (l .work)) word in
-    let more = c .before .before .before .before .before .loop-test in
     let takes = step-beside (a .panel) s (a .reader) (l .work) (paperReader (l .answer)) _ (l .inv .holds) (l .inv .goes (omega arith)) move in
-    goes-on (readerStep (a .reader)) (AtWork (a .reader)) (stays-at-work (a .reader)) _ _ (l .left) _ (l .inv) (omega arith) _ takes
-    (sym (c .before .goes-on .ensures) ∙ c .if1 .taken)
-
-loop-less-2 : tie.Need-loop-less-2 Inv-loop μ-loop
-loop-less-2 c = omega (arith, c .before .before .before .before .before .loop-test)
-
-loop-again-2 : tie.Need-loop-again-2 Inv-loop μ-loop
-loop-again-2 c =
-    let a = c .before .before .before .before .before .before .before .before .args in
-    let s = now (a .slots) in
-    let l = c .before .before .before .before .before .before .loop in
-    let word = c .before .before .before .word-read .ensures ∙ ap (wordRead s) (c .before .before .before .before .reader-access .ensures) in
-    let move = c .before .before .reader-advance .ensures ∙ ap (readerAdvance (a .panel .m) (a .panel .reach) (l .work)) word in
-    let more = c .before .before .before .before .before .loop-test in
-    let takes = step-beside (a .panel) s (a .reader) (l .work) (paperReader (l .answer)) _ (l .inv .holds) (l .inv .goes (omega arith)) move in
-    stops (readerStep (a .reader)) (AtWork (a .reader)) (stays-at-work (a .reader)) _ _ (l .left) _ (l .inv) (omega arith) _ takes
-    (sym (c .before .goes-on .ensures) ∙ c .if1 .left)
+    moves-on (readerStep (a .reader)) (AtWork (a .reader)) (stays-at-work (a .reader)) _ _ (l .left) _ (l .inv) (omega arith) _ takes _
+    (c .left-after .ensures ∙ ap (λ (b : Bool). cond b (l .left - 1) 0) (c .before .goes-on .ensures))
 
 with-work-requires : tie.Need-with-work-requires Inv-loop μ-loop
 with-work-requires c κs = search needs
@@ -104,10 +89,8 @@ reader-steps-spec =
     word-read-requires
     reader-advance-requires
     goes-on-requires
-    sub-left
+    left-after-requires
     loop-less
     loop-again
-    loop-less-2
-    loop-again-2
     with-work-requires
     returns)

@@ -1,6 +1,7 @@
 -- `whole_operations::writing::writer_steps` meets its contract: what is left to do from here comes to the same as the whole.
 -- Assumes nothing.
-use mathlib.Core.Bool.{not}
+use Prim.Native.Nat.{_-_}
+use mathlib.Core.Bool.{Bool, cond, not}
 use mathlib.Core.Logic.{⊎-elim}
 use mathlib.Core.Path.{_≡_, refl, _∙_, sym, ap}
 use native.Mathlib.Omega.{arith}
@@ -12,7 +13,7 @@ use Rattle.answers.specs.Answers.{underway, isUnderway, outcome, paperWriter}
 use Rattle.moves.specs.Moves.{updated, paperMoved}
 use Rattle.writer.proofs.WriterLaws.{slots-length, AtWork}
 use Rattle.whole_operations.specs.Whole.{writerStep}
-use Rattle.whole_operations.proofs.WholeLaws.{OnTheWay, arrives, goes-on, stops}
+use Rattle.whole_operations.proofs.WholeLaws.{fewer, OnTheWay, arrives, moves-on}
 use Rattle.whole_operations.proofs.WholeEnds.{stays-at-work}
 use Rattle.whole_operations.proofs.WorkBeside.{step-beside}
 use Rattle.whole_operations.proofs.writing.writer_steps.Statement.{statement}
@@ -49,17 +50,16 @@ with-update-requires c κs = search needs
 goes-on-requires : tie.Need-goes-on-requires Inv-loop μ-loop
 goes-on-requires c κs = search needs
 
-sub-left : tie.Need-sub-left Inv-loop μ-loop
-sub-left c = search needs
+left-after-requires : tie.Need-left-after-requires Inv-loop μ-loop
+left-after-requires c κs = omega (arith, c .before .before .before .before .before .before .before .before .loop-test)
 
 loop-less : tie.Need-loop-less Inv-loop μ-loop
-loop-less c = omega arith
+loop-less c = fewer (c .before .before .before .before .before .before .before .before .before .before .loop .left) _ (c .before .goes-on .result) (omega (arith, c .before .before .before .before .before .before .before .before .before .loop-test)) (c .left-after .ensures)
 
 loop-again : tie.Need-loop-again Inv-loop μ-loop
 unfolding updated
 loop-again c =
     let l = c .before .before .before .before .before .before .before .before .before .before .loop in
-    let next = c .before .before .before .writer-advance .result in
     let more = c .before .before .before .before .before .before .before .before .before .loop-test in
     let updates =
     ⊎-elim
@@ -67,31 +67,12 @@ loop-again c =
     (λ new. new .2 ∙ new .1 .ensures)
     (c .before .before .match .came) in
     let takes =
-    step-beside (l .held) (c .before .before .match .held) (l .slots) _ (l .work) (paperWriter (l .answer)) _ _ (paperMoved next) (l .inv .1 .holds)
-    (l .inv .1 .goes (omega arith)) (c .before .before .before .before .before .before .before .writer-access .ensures) (c .before .before .before .before .before .before .perform .ensures .0) (c .before .before .before .before .before .before .perform .ensures .1) (c .before .before .before .writer-advance .ensures) updates in (
+    step-beside (l .held) (c .before .before .match .held) (l .slots) _ (l .work) (paperWriter (l .answer)) _ _ (paperMoved (c .before .before .before .writer-advance .result))
+    (l .inv .1 .holds) (l .inv .1 .goes (omega arith)) (c .before .before .before .before .before .before .before .writer-access .ensures) (c .before .before .before .before .before .before .perform .ensures .0) (c .before .before .before .before .before .before .perform .ensures .1)
+    (c .before .before .before .writer-advance .ensures) updates in (
       ap length (c .before .before .before .before .before .before .perform .ensures .1) ∙ slots-length (l .slots) _ ∙ l .inv .0,
-      goes-on writerStep AtWork stays-at-work _ _ (l .left) _ (l .inv .1) (omega arith) _ takes (sym (c .before .goes-on .ensures) ∙ c .if1 .taken),
-    )
-
-loop-less-2 : tie.Need-loop-less-2 Inv-loop μ-loop
-loop-less-2 c = omega (arith, c .before .before .before .before .before .before .before .before .before .loop-test)
-
-loop-again-2 : tie.Need-loop-again-2 Inv-loop μ-loop
-unfolding updated
-loop-again-2 c =
-    let l = c .before .before .before .before .before .before .before .before .before .before .loop in
-    let next = c .before .before .before .writer-advance .result in
-    let more = c .before .before .before .before .before .before .before .before .before .loop-test in
-    let updates =
-    ⊎-elim
-    (λ kept. kept .2 ∙ sym (ap (updated (l .held)) (kept .1 .given .1)))
-    (λ new. new .2 ∙ new .1 .ensures)
-    (c .before .before .match .came) in
-    let takes =
-    step-beside (l .held) (c .before .before .match .held) (l .slots) _ (l .work) (paperWriter (l .answer)) _ _ (paperMoved next) (l .inv .1 .holds)
-    (l .inv .1 .goes (omega arith)) (c .before .before .before .before .before .before .before .writer-access .ensures) (c .before .before .before .before .before .before .perform .ensures .0) (c .before .before .before .before .before .before .perform .ensures .1) (c .before .before .before .writer-advance .ensures) updates in (
-      ap length (c .before .before .before .before .before .before .perform .ensures .1) ∙ slots-length (l .slots) _ ∙ l .inv .0,
-      stops writerStep AtWork stays-at-work _ _ (l .left) _ (l .inv .1) (omega arith) _ takes (sym (c .before .goes-on .ensures) ∙ c .if1 .left),
+      moves-on writerStep AtWork stays-at-work _ _ (l .left) _ (l .inv .1) (omega arith) _ takes _
+          (c .left-after .ensures ∙ ap (λ (b : Bool). cond b (l .left - 1) 0) (c .before .goes-on .ensures)),
     )
 
 with-writer-requires : tie.Need-with-writer-requires Inv-loop μ-loop
@@ -119,11 +100,9 @@ writer-steps-spec =
     enum-told
     with-update-requires
     goes-on-requires
-    sub-left
+    left-after-requires
     loop-less
     loop-again
-    loop-less-2
-    loop-again-2
     with-writer-requires
     same-length
     returns)

@@ -1,18 +1,15 @@
 -- Laws of the record that callers cite in place of the definitions' text: what the range test says, field by field and back; what replacing a
--- part does to the ranges, and one reader's work to the others; that a fresh record is in range and the record of zeros never is.
+-- part does to the ranges; that a fresh record is in range and the record of zeros never is.
 -- Assumes nothing.
-use Prim.Native.Nat.{ℕ, _≤_, _<_}
-use mathlib.Core.Path.{_≡_, refl, ap}
+use Prim.Native.Nat.{ℕ, _≤_}
+use mathlib.Core.Path.{_≡_, refl}
 use mathlib.Core.Bool.{true, false}
-use mathlib.Core.Logic.{_≢_}
 use borrow.Author.Tests.{leb-true, le-leb, eqb-true}
 use lib.Dec.{leb, eqb, leb·zero}
-use lib.ListN.{length, replicate}
-use lib.Seq.{getD-set-same, getD-set-other}
+use lib.ListN.{replicate}
 use Rattle.refusal.specs.Judging.{both, either, within}
 use Rattle.refusal.proofs.Laws.{both-left, both-right, both-true, within-low, within-high}
 use Rattle.record.specs.declared.Record.{Record}
-use Rattle.record.specs.declared.Reader.{Reader}
 use Rattle.record.specs.declared.ReaderWork.{ReaderWork}
 use Rattle.record.specs.declared.WriterWork.{WriterWork}
 use Rattle.record.specs.declared.Station.{Station}
@@ -167,16 +164,6 @@ module _ (lent : ℕ) (panel : Record) (h : inRange lent panel ≡ true) where
   count-in-range index e =
       leb-true (countOf panel index) (panel .m)
       (all-first-at (λ (c : ℕ). leb c (panel .m)) (panel .k) (panel .counts) index 0 (fields lent panel h .counts-fit) (leb·zero (panel .m)) e)
-
-pub work-replaced : (panel : Record) (reader : ℕ) (work : ReaderWork) → reader < length (panel .readers) → workOf (withWork panel reader work) reader ≡ work
-unfolding workOf withWork
-work-replaced panel reader work h =
-    ap (λ (r : Reader). r .work) (getD-set-same (panel .readers) reader (record { work = work }) idleReader h)
-
-pub others-stay : (panel : Record) (reader other : ℕ) (work : ReaderWork) → other ≢ reader → workOf (withWork panel reader work) other ≡ workOf panel other
-unfolding workOf withWork
-others-stay panel reader other work h =
-    ap (λ (r : Reader). r .work) (getD-set-other (panel .readers) reader other (record { work = work }) idleReader h)
 
 pub fresh-in-range : (m k lent : ℕ) → sizesInRange m k lent ≡ true → inRange lent (freshRecord m k) ≡ true
 unfolding inRange freshRecord countsInRange writerInRange readersInRange readerInRange workInRange stationsInRange stationInRange all both either

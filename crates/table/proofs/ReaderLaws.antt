@@ -17,9 +17,10 @@ use Rattle.record.specs.declared.Walk.{Walk}
 use Rattle.record.specs.declared.ReaderWork.{ReaderWork}
 use Rattle.record.specs.declared.ReaderWork.the-variants.{Idle, LookingUp, Walking}
 use Rattle.record.specs.Parts.{workOf, withWork}
+use Rattle.record.proofs.WorkLaws.{others-stay}
 use Rattle.work_ranges.specs.WorkRanges.{validPoint, searchInRange, lookupInRange, workInRange}
 use Rattle.record_ranges.specs.Ranges.{inRange}
-use Rattle.record_ranges.proofs.Laws.{fields, sizes-in-range, work-in-range, with-work-in-range, others-stay}
+use Rattle.record_ranges.proofs.Laws.{fields, sizes-in-range, work-in-range, with-work-in-range}
 use Rattle.search.specs.declared.access.ReadAccess.the-variants.{Slot}
 use Rattle.search.specs.declared.Searched.{Searched}
 use Rattle.search.specs.declared.Searched.the-variants.{Going, Answered}

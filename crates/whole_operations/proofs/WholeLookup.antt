@@ -9,19 +9,18 @@ use native.Mathlib.Omega.{arith}
 use borrow.Author.Tests.{ltb-false, le-ltb, not-true, not-false}
 use lib.Dec.{ltb}
 use lib.ListN.{length, length-set}
-use lib.Seq.{set-set}
 use Rattle.refusal.specs.Judging.{refuseIf}
 use Rattle.refusal.proofs.Laws.{both-true, not-refused}
 use Rattle.record.specs.declared.Record.{Record}
 use Rattle.record.specs.declared.Search.the-variants.{Unread}
 use Rattle.record.specs.declared.Walk.{Walk}
-use Rattle.record.specs.declared.Reader.{Reader}
 use Rattle.record.specs.declared.ReaderWork.{ReaderWork}
 use Rattle.record.specs.declared.ReaderWork.the-variants.{Idle, LookingUp, Walking}
 use Rattle.record.specs.Parts.{workOf, withWork}
+use Rattle.record.proofs.WorkLaws.{work-replaced, replaced-twice}
 use Rattle.work_ranges.specs.WorkRanges.{validPoint, workInRange, lookupInRange, searchInRange}
 use Rattle.record_ranges.specs.Ranges.{inRange}
-use Rattle.record_ranges.proofs.Laws.{fields, work-in-range, with-work-in-range, work-replaced}
+use Rattle.record_ranges.proofs.Laws.{fields, work-in-range, with-work-in-range}
 use Rattle.table.specs.Starts.{lookupRefusal, startReader, startLookup}
 use Rattle.whole_operations.specs.Whole.{untilEnded, readerStep, wholeLookup}
 use Rattle.table.proofs.ReaderLaws.{stepsLeft, OneLess, advances, none-left}
@@ -127,22 +126,6 @@ module _ (panel : Record) (slots : List ℕ) (reader : ℕ) where
   abbrev pub beside : ReaderWork → ReaderMove
   beside work = readerAdvance (panel .m) (panel .reach) work (wordRead slots (readerAccess (panel .m) work))
 
-  replaced-twice : (first second : ReaderWork) → withWork (withWork panel reader first) reader second ≡ withWork panel reader second
-  unfolding withWork
-  replaced-twice first second =
-      ap
-      (λ (readers : List Reader).
-      record {
-        m = panel .m;
-        k = panel .k;
-        reach = panel .reach;
-        counts = panel .counts;
-        writer = panel .writer;
-        readers = readers;
-        stations = panel .stations;
-      })
-      (set-set (panel .readers) reader (record { work = first }) (record { work = second }))
-
   pub step-beside : (work : ReaderWork) (answer : Answer) (next : ReaderMove) → AtWork reader (outcome (withWork panel reader work) slots answer) → isUnderway answer ≡ true → next ≡ beside work → readerStep reader (outcome (withWork panel reader work) slots answer) ≡ outcome (withWork panel reader (next .work)) slots (next .answer)
   unfolding readerStep withWork move
   step-beside work answer next p e same-move =
@@ -150,7 +133,7 @@ module _ (panel : Record) (slots : List ℕ) (reader : ℕ) where
       let works = not-true (isIdle (workOf (withWork panel reader work) reader)) (sym (p .busy) ∙ e) in
       allowed reader (withWork panel reader work) slots (p .fits) (p .known) (p .held) works
       ∙ ap (λ (w : ReaderWork). outcome (withWork (withWork panel reader work) reader (beside w .work)) slots (beside w .answer)) same
-      ∙ ap (λ (after : Record). outcome after slots (beside work .answer)) (replaced-twice work (beside work .work))
+      ∙ ap (λ (after : Record). outcome after slots (beside work .answer)) (replaced-twice panel reader work (beside work .work))
       ∙ ap (λ (m : ReaderMove). outcome (withWork panel reader (m .work)) slots (m .answer)) (sym same-move)
 
 -- a reader that is given work

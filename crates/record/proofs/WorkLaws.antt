@@ -1,0 +1,36 @@
+-- A reader's work that was replaced: read again, replaced again, and what it leaves to the other readers.
+-- Assumes nothing.
+use Prim.Native.Nat.{ℕ, _<_}
+use mathlib.Core.Path.{_≡_, ap}
+use mathlib.Core.Logic.{_≢_}
+use lib.ListN.{length}
+use lib.Seq.{getD-set-same, getD-set-other, set-set}
+use Rattle.record.specs.declared.Record.{Record}
+use Rattle.record.specs.declared.Reader.{Reader}
+use Rattle.record.specs.declared.ReaderWork.{ReaderWork}
+use Rattle.record.specs.Parts.{idleReader, workOf, withWork}
+
+pub work-replaced : (panel : Record) (reader : ℕ) (work : ReaderWork) → reader < length (panel .readers) → workOf (withWork panel reader work) reader ≡ work
+unfolding workOf withWork
+work-replaced panel reader work h =
+    ap (λ (r : Reader). r .work) (getD-set-same (panel .readers) reader (record { work = work }) idleReader h)
+
+pub others-stay : (panel : Record) (reader other : ℕ) (work : ReaderWork) → other ≢ reader → workOf (withWork panel reader work) other ≡ workOf panel other
+unfolding workOf withWork
+others-stay panel reader other work h =
+    ap (λ (r : Reader). r .work) (getD-set-other (panel .readers) reader other (record { work = work }) idleReader h)
+
+pub replaced-twice : (panel : Record) (reader : ℕ) (first second : ReaderWork) → withWork (withWork panel reader first) reader second ≡ withWork panel reader second
+unfolding withWork
+replaced-twice panel reader first second =
+    let same = set-set (panel .readers) reader (record { work = first }) (record { work = second }) in
+    λ j.
+    record {
+      m = panel .m;
+      k = panel .k;
+      reach = panel .reach;
+      counts = panel .counts;
+      writer = panel .writer;
+      readers = same j;
+      stations = panel .stations;
+    }

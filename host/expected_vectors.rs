@@ -1,5 +1,5 @@
-//! What the programs `vectors` and `writer_vectors` have to print, worked out a second time from
-//! document 01: the stored outputs are compared with this. The argument names the program.
+//! What the program `vectors` has to print, worked out a second time from document 01: the
+//! stored output is compared with this.
 
 mod expected_commands;
 mod expected_disabled;
@@ -50,7 +50,7 @@ fn refusals() {
     }
 }
 
-fn vectors() {
+fn main() {
     generator();
     positions();
     refusals();
@@ -59,19 +59,8 @@ fn vectors() {
     expected_readers::run();
     expected_ranges::run();
     expected_disabled::run();
-}
-
-fn writer_vectors() {
     expected_writing::run();
     expected_writer_refusals::run();
     expected_unreached::run();
     expected_history::run();
-}
-
-fn main() {
-    match std::env::args().nth(1).as_deref() {
-        Some("vectors") => vectors(),
-        Some("writer_vectors") => writer_vectors(),
-        _ => panic!("expected_vectors: name a program, vectors or writer_vectors"),
-    }
 }

@@ -9,13 +9,18 @@ use whole_operations::whole_put;
 use whole_operations::whole_removal;
 
 // The panel, the number of lines so far, and how much of the output's buffer is in use.
-pub(crate) struct Session {
+pub(crate) struct BenchState {
     pub panel: Record,
     pub number: u64,
     pub filled: usize,
 }
 
-pub(crate) fn run_line(now: Session, line: Line, slots: &mut [u64], text: &mut [u8]) -> Session {
+pub(crate) fn run_line(
+    now: BenchState,
+    line: Line,
+    slots: &mut [u64],
+    text: &mut [u8],
+) -> BenchState {
     let panel = now.panel;
     let number = std::num::wrapping_add_u64(now.number, 1);
     let filled = room(now.filled, text);
@@ -24,7 +29,7 @@ pub(crate) fn run_line(now: Session, line: Line, slots: &mut [u64], text: &mut [
             let done = whole_put(panel, slots, put.point, put.value);
             let after = done.panel;
             let answer = done.answer;
-            Session {
+            BenchState {
                 panel: after,
                 number: number,
                 filled: printing::put(filled, text, put.point, answer),
@@ -34,7 +39,7 @@ pub(crate) fn run_line(now: Session, line: Line, slots: &mut [u64], text: &mut [
             let done = whole_lookup(panel, slots, 0, point);
             let after = done.panel;
             let answer = done.answer;
-            Session {
+            BenchState {
                 panel: after,
                 number: number,
                 filled: printing::lookup(filled, text, point, answer),
@@ -44,13 +49,13 @@ pub(crate) fn run_line(now: Session, line: Line, slots: &mut [u64], text: &mut [
             let done = whole_removal(panel, slots, point);
             let after = done.panel;
             let answer = done.answer;
-            Session {
+            BenchState {
                 panel: after,
                 number: number,
                 filled: printing::removal(filled, text, point, answer),
             }
         }
-        CommandLine::Unreadable => Session {
+        CommandLine::Unreadable => BenchState {
             panel: panel,
             number: number,
             filled: printing::unreadable(filled, text, number),

@@ -5,7 +5,7 @@ mod output;
 mod printing;
 
 use answers::FreshAnswer;
-use commands::Session;
+use commands::BenchState;
 use commands::run_line;
 use input::Part;
 use input::first_part;
@@ -58,7 +58,7 @@ fn with_panel(slots: &mut [u64], bytes: &mut [u8], text: &mut [u8], first: Part,
     match answer {
         FreshAnswer::Refused(_) => refuse(text),
         FreshAnswer::Made => {
-            let begun = Session {
+            let begun = BenchState {
                 panel: panel,
                 number: 1,
                 filled: printing::panel(0, text, m, k),
@@ -77,7 +77,7 @@ fn refuse(text: &mut [u8]) {
 // Every line behind the first. Such a loop has to end, and nothing says that the input does: it counts
 // its turns down, from a number that no run uses up.
 fn run_lines(
-    begun: Session,
+    begun: BenchState,
     first: Part,
     slots: &mut [u64],
     bytes: &mut [u8],
@@ -90,7 +90,7 @@ fn run_lines(
         if count == 0 {
             return ran;
         }
-        let now = ran.session;
+        let now = ran.state;
         let line = ran.line;
         let part = next_part(bytes, line, 0, count);
         ran = run_whole_lines(now, part, slots, bytes, text);
@@ -99,14 +99,14 @@ fn run_lines(
     ran
 }
 
-// The session after the lines that the buffer has whole, and the line of which it has only a part.
+// The state after the lines that the buffer has whole, and the line of which it has only a part.
 struct Ran {
-    session: Session,
+    state: BenchState,
     line: Line,
 }
 
 fn run_whole_lines(
-    begun: Session,
+    begun: BenchState,
     first: Part,
     slots: &mut [u64],
     bytes: &[u8],
@@ -119,7 +119,7 @@ fn run_whole_lines(
         let line = part.line;
         if !part.is_whole {
             return Ran {
-                session: now,
+                state: now,
                 line: line,
             };
         }
@@ -128,7 +128,7 @@ fn run_whole_lines(
         turns -= 1;
     }
     Ran {
-        session: now,
+        state: now,
         line: line::begin(),
     }
 }
@@ -136,7 +136,7 @@ fn run_whole_lines(
 // The input has ended. "The last line needs no line end"; what follows the last line end is a line only
 // if it is not empty.
 fn end_run(ran: Ran, slots: &mut [u64], text: &mut [u8]) {
-    let now = ran.session;
+    let now = ran.state;
     let line = ran.line;
     if is_begun(line) {
         finish(run_line(now, line, slots, text), slots, text);
@@ -146,7 +146,7 @@ fn end_run(ran: Ran, slots: &mut [u64], text: &mut [u8]) {
 }
 
 // The last printed line: the reach and the number of stored points.
-fn finish(ended: Session, slots: &[u64], text: &mut [u8]) {
+fn finish(ended: BenchState, slots: &[u64], text: &mut [u8]) {
     let panel = ended.panel;
     let room = output::room(ended.filled, text);
     let filled = printing::finish(room, text, panel.reach, stored_points(slots));

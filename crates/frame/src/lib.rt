@@ -4,11 +4,11 @@ mod big_endian;
 pub mod c_interface;
 mod judge;
 mod layout;
-mod reader;
-mod writer;
+mod reading;
+mod writing;
 
-pub use reader::read;
-pub use writer::write;
+pub use reading::read;
+pub use writing::write;
 ghost use mathlib.Core.Path.{_≡_};
 ghost use Rattle.frame.specs.Answers.{paperRead};
 ghost use Rattle.frame.specs.FieldMap.{mapOf};

@@ -1,10 +1,10 @@
 // Fresh panels, and refused ones.
+use crate::printing::line_end;
+use crate::printing::number;
+use crate::printing::refused;
+use crate::printing::text;
+use crate::printing::word;
 use answers::FreshAnswer;
-use printing::line_end;
-use printing::number;
-use printing::refused;
-use printing::text;
-use printing::words;
 
 pub(crate) fn run() {
     fresh(3, 4, 4);
@@ -51,6 +51,12 @@ fn fresh_answer(answer: FreshAnswer) {
     match answer {
         FreshAnswer::Made => text(b" made"),
         FreshAnswer::Refused(r) => refused(r),
+    }
+}
+
+pub(crate) fn words(slots: &[u64]) {
+    for i in 0..slots.len() {
+        word(slots[i]);
     }
 }
 

@@ -1,9 +1,16 @@
 // The second, test program of document 01: outside vectors, run through the proved functions.
+mod commands;
 mod disabled;
 mod frames;
 mod fresh;
+mod history;
+mod operations;
+mod printing;
 mod ranges;
 mod readers;
+mod unreached;
+mod writer_refusals;
+mod writing;
 
 use printing::line_end;
 use printing::number;
@@ -20,6 +27,10 @@ fn main() {
     readers::run();
     ranges::run();
     disabled::run();
+    writing::run();
+    writer_refusals::run();
+    unreached::run();
+    history::run();
 }
 
 // The published check z(10000), and the table's first six values.

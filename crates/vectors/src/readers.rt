@@ -1,11 +1,11 @@
 // Lookups and walks over hand-made slots, one access a step, and the refusals in their order.
+use crate::printing::line_end;
+use crate::printing::number;
+use crate::printing::refused;
+use crate::printing::text;
+use crate::printing::word;
 use answers::ReaderAnswer;
-use printing::line_end;
-use printing::number;
-use printing::refused;
-use printing::start_answer;
-use printing::text;
-use printing::word;
+use answers::StartAnswer;
 use reader_step::step_reader;
 use record::Record;
 use record::parts::fresh_record;
@@ -47,6 +47,13 @@ fn stored() -> [u64; 8] {
     slots[2] = word_of(9, 6);
     slots[3] = word_of(17, 7);
     slots
+}
+
+pub(crate) fn start_answer(answer: StartAnswer) {
+    match answer {
+        StartAnswer::Started => text(b" started"),
+        StartAnswer::Refused(r) => refused(r),
+    }
 }
 
 fn reader_answer(answer: ReaderAnswer) {

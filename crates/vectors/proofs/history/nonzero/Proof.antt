@@ -1,0 +1,52 @@
+-- `vectors::history::nonzero` ends: it counts up to the number of slots.
+-- Assumes nothing.
+use Prim.Native.Nat.{_-_, _≤_}
+use borrow.Author.Needs.{needs}
+use lib.ListN.{length}
+use Rattle.vectors.proofs.history.nonzero.Statement.{statement}
+use Rattle.vectors.proofs.history.nonzero.Tie as tie
+
+abbrev Inv-loop : tie.InvT-loop
+Inv-loop slots count₀ i₀ i-end count i = i ≤ length slots
+
+abbrev μ-loop : tie.MeasureT-loop
+μ-loop slots count₀ i₀ i-end count i = length slots - i
+
+loop-holds : tie.Need-loop-holds Inv-loop μ-loop
+loop-holds c = search needs
+
+mul-if1 : tie.Need-mul-if1 Inv-loop μ-loop
+mul-if1 c = search needs
+
+shared-slice-read-if1 : tie.Need-shared-slice-read-if1 Inv-loop μ-loop
+shared-slice-read-if1 c = search needs
+
+wrapping-add-u32-requires : tie.Need-wrapping-add-u32-requires Inv-loop μ-loop
+wrapping-add-u32-requires c κs = search needs
+
+add-i : tie.Need-add-i Inv-loop μ-loop
+add-i c = search needs
+
+loop-less : tie.Need-loop-less Inv-loop μ-loop
+loop-less c = search needs
+
+loop-again : tie.Need-loop-again Inv-loop μ-loop
+loop-again c = search needs
+
+returns : tie.Need-returns Inv-loop μ-loop
+returns c = search needs
+
+pub nonzero-spec : {M : Type 1} → statement M
+nonzero-spec =
+    tie.close
+    (tie.spec
+    Inv-loop
+    μ-loop
+    loop-holds
+    mul-if1
+    shared-slice-read-if1
+    wrapping-add-u32-requires
+    add-i
+    loop-less
+    loop-again
+    returns)

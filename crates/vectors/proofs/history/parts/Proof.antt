@@ -1,0 +1,61 @@
+-- `vectors::history::parts` ends: it counts up to part 12.
+-- Assumes nothing.
+use Prim.Native.Nat.{_-_, _≤_}
+use mathlib.Core.Path.{_≡_}
+use borrow.Author.Needs.{needs}
+use lib.ListN.{length}
+use Rattle.vectors.proofs.history.parts.Statement.{statement}
+use Rattle.vectors.proofs.history.parts.Tie as tie
+
+abbrev Inv-loop : tie.InvT-loop
+Inv-loop slots₀ now₀ part₀ slots now part = (part ≤ 13) × (length slots ≡ length slots₀)
+
+abbrev μ-loop : tie.MeasureT-loop
+μ-loop slots₀ now₀ part₀ slots now part = 13 - part
+
+fresh-record-requires : tie.Need-fresh-record-requires Inv-loop μ-loop
+fresh-record-requires c κs = search needs
+
+loop-holds : tie.Need-loop-holds Inv-loop μ-loop
+loop-holds c = search needs
+
+calls-requires : tie.Need-calls-requires Inv-loop μ-loop
+calls-requires c κs = search needs
+
+mul-report : tie.Need-mul-report Inv-loop μ-loop
+mul-report c = search needs
+
+report-requires : tie.Need-report-requires Inv-loop μ-loop
+report-requires c κs = search needs
+
+add-part : tie.Need-add-part Inv-loop μ-loop
+add-part c = search needs
+
+loop-less : tie.Need-loop-less Inv-loop μ-loop
+loop-less c = search needs
+
+loop-again : tie.Need-loop-again Inv-loop μ-loop
+loop-again c = search needs
+
+same-length : tie.Need-same-length Inv-loop μ-loop
+same-length c = search needs
+
+returns : tie.Need-returns Inv-loop μ-loop
+returns c = search needs
+
+pub parts-spec : {M : Type 1} → statement M
+parts-spec =
+    tie.close
+    (tie.spec
+    Inv-loop
+    μ-loop
+    fresh-record-requires
+    loop-holds
+    calls-requires
+    mul-report
+    report-requires
+    add-part
+    loop-less
+    loop-again
+    same-length
+    returns)

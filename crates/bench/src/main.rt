@@ -149,18 +149,6 @@ fn end_run(ran: Ran, slots: &mut [u64], text: &mut [u8]) {
 fn finish(ended: BenchState, slots: &[u64], text: &mut [u8]) {
     let panel = ended.panel;
     let room = output::room(ended.filled, text);
-    let filled = printing::finish(room, text, panel.reach, stored_points(slots));
+    let filled = printing::finish(room, text, panel.reach, table::taken_slots(slots) as u64);
     output::flush(filled, text);
-}
-
-fn stored_points(slots: &[u64]) -> u64 {
-    let mut count: u64 = 0;
-    let mut i = 0;
-    while i < slots.len() {
-        if slots[i] != 0 {
-            count = std::num::wrapping_add_u64(count, 1);
-        }
-        i += 1;
-    }
-    count
 }

@@ -2,13 +2,13 @@
 // frame reader and the frame writer; `c_interface` has them for firmware in C.
 mod big_endian;
 pub mod c_interface;
+mod frame_reader;
+mod frame_writer;
 mod judge;
 mod layout;
-mod reading;
-mod writing;
 
-pub use reading::read;
-pub use writing::write;
+pub use frame_reader::read;
+pub use frame_writer::write;
 ghost use mathlib.Core.Path.{_≡_};
 ghost use Rattle.frame.specs.Answers.{paperRead};
 ghost use Rattle.frame.specs.FieldMap.{mapOf};

@@ -3,7 +3,7 @@
 use Prim.Native.Nat.{ℕ, _≤_}
 use mathlib.Core.Path.{_≡_, refl, sym, _∙_}
 use mathlib.Core.Bool.{Bool, true, false, cond}
-use mathlib.Core.List.{List, [], _∷_, _++_}
+use mathlib.Core.List.{List, [], _∷_}
 use native.Mathlib.Omega.{arith}
 use lib.Dec.{eqb}
 use lib.ListN.{length}
@@ -104,13 +104,3 @@ reads-command bytes = rw (line-joined lineBegin bytes) (command-joined (fields b
 pub reads-sizes : (bytes : List ℕ) → sizesOf (lineAfter bytes) ≡ readSizes bytes
 unfolding lineAfter readSizes
 reads-sizes bytes = rw (line-joined lineBegin bytes) (sizes-joined (fields bytes))
-
--- a byte more behind the bytes given, as a caller gives them
-from-one-more : (line : Line) (bytes : List ℕ) (byte : ℕ) → lineFrom line (bytes ++ (byte ∷ [])) ≡ lineMore (lineFrom line bytes) byte
-unfolding lineFrom
-from-one-more line [] byte = refl
-from-one-more line (first ∷ bytes) byte = from-one-more (lineMore line first) bytes byte
-
-pub after-one-more : (bytes : List ℕ) (byte : ℕ) → lineAfter (bytes ++ (byte ∷ [])) ≡ lineMore (lineAfter bytes) byte
-unfolding lineAfter
-after-one-more bytes byte = from-one-more lineBegin bytes byte

@@ -1,3 +1,4 @@
 pub mod Starts
 pub mod FreshPanel
 pub mod ReaderFacts
+pub mod Taken

@@ -4,6 +4,7 @@ use crate::operations::levels;
 use crate::printing::line_end;
 use crate::printing::number;
 use crate::printing::text;
+use crate::printing::word;
 use answers::ReaderAnswer;
 use answers::StartAnswer;
 use answers::WriterAnswer;
@@ -60,18 +61,8 @@ fn report(now: History, slots: &[u64], made: u32) {
     number(now.sum);
     levels(panel);
     text(b" stored");
-    number(nonzero(slots));
+    word(table::taken_slots(slots) as u64);
     line_end();
-}
-
-fn nonzero(slots: &[u64]) -> u32 {
-    let mut count = 0u32;
-    for i in 0..slots.len() {
-        if slots[i] != 0 {
-            count = std::num::wrapping_add_u32(count, 1);
-        }
-    }
-    count
 }
 
 // The Park-Miller generator.

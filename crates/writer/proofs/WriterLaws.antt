@@ -61,9 +61,6 @@ module _ (panel : Record) (slots : List ℕ) (fits : inRange (length slots) pane
   move : WriterMove
   move = writerAdvance panel (panel .writer) (accessRead slots access)
 
-  after : Outcome
-  after = writerRuns panel slots (panel .writer)
-
   -- no call is refused
   pub allowed : stepWriter panel slots ≡ writerRuns panel slots (panel .writer)
   unfolding stepWriter stepRefusal refuseIf unlessRefused

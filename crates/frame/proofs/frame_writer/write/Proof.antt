@@ -1,4 +1,4 @@
--- `frame::writing::write` meets its contract: the map byte, the ranges, the room, and then the stores.
+-- `frame::frame_writer::write` meets its contract: the map byte, the ranges, the room, and then the stores.
 -- Assumes nothing.
 use mathlib.Core.Path.{sym, ap, _∙_}
 use denote.Ref.{now}
@@ -10,8 +10,8 @@ use Rattle.frame.specs.Layouts.{putFrame}
 use Rattle.frame.proofs.LayoutLaws.{chosen, not-allowed, length-laid}
 use Rattle.frame.proofs.Outcomes.{write-not-allowed, write-out-of-range, write-short, write-whole}
 use borrow.Author.Needs.{needs}
-use Rattle.frame.proofs.writing.write.Statement.{statement}
-use Rattle.frame.proofs.writing.write.Tie as tie
+use Rattle.frame.proofs.frame_writer.write.Statement.{statement}
+use Rattle.frame.proofs.frame_writer.write.Tie as tie
 
 layout-of-requires : tie.Need-layout-of-requires
 layout-of-requires c κs = search needs

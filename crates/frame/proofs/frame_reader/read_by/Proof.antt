@@ -1,4 +1,4 @@
--- `frame::reading::read_by` meets its contract: the length decides, or the ranges' judge does.
+-- `frame::frame_reader::read_by` meets its contract: the length decides, or the ranges' judge does.
 -- Assumes nothing.
 use mathlib.Core.Path.{sym, ap, _∙_}
 use borrow.Author.Tests.{ne-eqb}
@@ -12,8 +12,8 @@ use Rattle.refusal.specs.Refusals.{paperJudged}
 use Rattle.frame.specs.Layouts.{readingBy}
 use Rattle.frame.proofs.Outcomes.{handed-refused, reading-of-length}
 use borrow.Author.Needs.{needs}
-use Rattle.frame.proofs.reading.read_by.Statement.{statement}
-use Rattle.frame.proofs.reading.read_by.Tie as tie
+use Rattle.frame.proofs.frame_reader.read_by.Statement.{statement}
+use Rattle.frame.proofs.frame_reader.read_by.Tie as tie
 
 cast-if1 : tie.Need-cast-if1
 cast-if1 c = search needs

@@ -1,9 +1,9 @@
--- `frame::writing::put_frame` meets its contract, store by store.
+-- `frame::frame_writer::put_frame` meets its contract, store by store.
 -- Assumes nothing.
 use Rattle.frame.specs.Layouts.{put, putFrame}
 use borrow.Author.Needs.{needs}
-use Rattle.frame.proofs.writing.put_frame.Statement.{statement}
-use Rattle.frame.proofs.writing.put_frame.Tie as tie
+use Rattle.frame.proofs.frame_writer.put_frame.Statement.{statement}
+use Rattle.frame.proofs.frame_writer.put_frame.Tie as tie
 
 map-requires : tie.Need-map-requires
 map-requires c κs = search needs

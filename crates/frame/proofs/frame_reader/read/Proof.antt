@@ -1,4 +1,4 @@
--- `frame::reading::read` meets its contract: an empty string, a map byte that is not allowed, or what its layout gives.
+-- `frame::frame_reader::read` meets its contract: an empty string, a map byte that is not allowed, or what its layout gives.
 -- Assumes nothing.
 use mathlib.Core.Path.{sym, ap, _∙_}
 use native.Mathlib.Omega.{arith}
@@ -9,8 +9,8 @@ use Rattle.frame.specs.Frames.{readRefusal, handed, readFrame}
 use Rattle.frame.specs.Layouts.{readingBy}
 use Rattle.frame.proofs.LayoutLaws.{chosen, not-allowed, reading-laid}
 use borrow.Author.Needs.{needs}
-use Rattle.frame.proofs.reading.read.Statement.{statement}
-use Rattle.frame.proofs.reading.read.Tie as tie
+use Rattle.frame.proofs.frame_reader.read.Statement.{statement}
+use Rattle.frame.proofs.frame_reader.read.Tie as tie
 
 returns : tie.Need-returns
 unfolding readFrame readRefusal refuseIf handed

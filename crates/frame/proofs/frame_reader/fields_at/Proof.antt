@@ -1,9 +1,9 @@
--- `frame::reading::fields_at` meets its contract, field by field.
+-- `frame::frame_reader::fields_at` meets its contract, field by field.
 -- Assumes nothing.
 use Rattle.frame.specs.Layouts.{fieldsAt}
 use borrow.Author.Needs.{needs}
-use Rattle.frame.proofs.reading.fields_at.Statement.{statement}
-use Rattle.frame.proofs.reading.fields_at.Tie as tie
+use Rattle.frame.proofs.frame_reader.fields_at.Statement.{statement}
+use Rattle.frame.proofs.frame_reader.fields_at.Tie as tie
 
 number-at-requires : tie.Need-number-at-requires
 number-at-requires c κs = search needs

@@ -41,7 +41,7 @@ fn bench(slots: &mut [u64], bytes: &mut [u8], text: &mut [u8]) {
     }
 }
 
-// As many slots as asked for, or all of them where that is too many: then the panel is refused.
+// As many slots as asked for; more than there are is refused.
 fn with_sizes(slots: &mut [u64], bytes: &mut [u8], text: &mut [u8], first: Part, m: u32, k: u32) {
     let asked = m as usize;
     if asked <= slots.len() {

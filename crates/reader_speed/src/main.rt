@@ -5,6 +5,8 @@ use answers::ReaderAnswer;
 use reader_step::step_reader;
 use record::Record;
 use record::parts::fresh_record;
+use search::word::value_of;
+use search::word::word_of;
 use table::start_lookup;
 use table::start_walk;
 
@@ -55,7 +57,7 @@ fn fill(slots: &mut [u64], m: u32) {
 }
 
 fn place(slots: &mut [u64], m: u32, point: u32) {
-    let word = point as u64 * 4294967296 + point as u64;
+    let word = word_of(point, point);
     for index in 1..5u32 {
         if take(slots, hash::position(m, point, index), word) {
             return;
@@ -116,8 +118,13 @@ fn turn(tally: Tally, slots: &[u64], i: u32) -> Tally {
         ReaderAnswer::Underway => counted(after, tally.steps, tally.sum, 1),
         ReaderAnswer::Found(value) => counted(after, tally.steps, tally.sum, value as u64),
         ReaderAnswer::Unknown => counted(after, tally.steps, tally.sum, 7),
-        ReaderAnswer::Word(word) => counted(after, tally.steps, tally.sum, word % 4294967296),
-        ReaderAnswer::LastWord(word) => counted(after, tally.steps, tally.sum, word % 4294967296),
+        ReaderAnswer::Word(word) => counted(after, tally.steps, tally.sum, value_of(word) as u64),
+        ReaderAnswer::LastWord(word) => counted(
+            after,
+            tally.steps,
+            tally.sum,
+            value_of(word) as u64,
+        ),
         ReaderAnswer::Refused(_) => Tally {
             panel: started(after, slots, reader, i),
             steps: tally.steps,

@@ -3,13 +3,13 @@ use crate::printing::line_end;
 use crate::printing::number;
 use crate::printing::refused;
 use crate::printing::text;
-use crate::readers::word_of;
 use answers::DisplayAnswer;
 use answers::TotalAnswer;
 use disabled_points::disabled_point;
 use disabled_points::disabled_total;
 use record::Record;
 use record::parts::fresh_record;
+use search::word::word_of;
 
 pub(crate) fn run() {
     none();

@@ -9,6 +9,7 @@ use answers::StartAnswer;
 use reader_step::step_reader;
 use record::Record;
 use record::parts::fresh_record;
+use search::word::word_of;
 use table::start_lookup;
 use table::start_walk;
 
@@ -33,11 +34,6 @@ fn panel_of(reach: u32) -> Record {
     let mut panel = fresh_record(8, 4);
     panel.reach = reach;
     panel
-}
-
-// The word of a point and its value.
-pub(crate) fn word_of(point: u32, value: u32) -> u64 {
-    point as u64 * 4294967296 + value as u64
 }
 
 // Points 1, 9 and 17 on their positions 1, 2 and 3.

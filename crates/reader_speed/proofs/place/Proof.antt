@@ -13,11 +13,8 @@ Inv-loop slots₀ m point word index₀ slots index = (index ≤ 5) × (length s
 abbrev μ-loop : tie.MeasureT-loop
 μ-loop slots₀ m point word index₀ slots index = 5 - index
 
-mul-word : tie.Need-mul-word Inv-loop μ-loop
-mul-word c = search needs
-
-add-word : tie.Need-add-word Inv-loop μ-loop
-add-word c = search needs
+word-of-requires : tie.Need-word-of-requires Inv-loop μ-loop
+word-of-requires c κs = search needs
 
 loop-holds : tie.Need-loop-holds Inv-loop μ-loop
 loop-holds c = search needs
@@ -55,8 +52,7 @@ place-spec =
     (tie.spec
     Inv-loop
     μ-loop
-    mul-word
-    add-word
+    word-of-requires
     loop-holds
     position-requires
     take-requires

@@ -12,10 +12,14 @@ use Rattle.refusal.specs.declared.Refusal.{Refusal}
 use Rattle.refusal.specs.Refusals.{numberOf}
 use Rattle.refusal.proofs.Laws.{rowOf, row-of-number, number-positive}
 use Rattle.record.specs.declared.Record.{Record}
+use Rattle.record.specs.declared.CommandAnswer.{CommandAnswer}
+use Rattle.record.specs.declared.CommandAnswer.the-variants.{Value, Unknown as CommandAnswer·Unknown}
 use Rattle.answers.specs.declared.FreshAnswer.{FreshAnswer}
 use Rattle.answers.specs.declared.FreshAnswer.the-variants.{Made, Refused as FreshAnswer·Refused}
 use Rattle.answers.specs.declared.StartAnswer.{StartAnswer}
 use Rattle.answers.specs.declared.StartAnswer.the-variants.{Started, Refused as StartAnswer·Refused}
+use Rattle.answers.specs.declared.EntryAnswer.{EntryAnswer}
+use Rattle.answers.specs.declared.EntryAnswer.the-variants.{Started as EntryAnswer·Started, GivenAgain, Refused as EntryAnswer·Refused}
 use Rattle.answers.specs.declared.ReaderAnswer.{ReaderAnswer}
 use Rattle.answers.specs.declared.ReaderAnswer.the-variants.{Underway as ReaderAnswer·Underway, Found, Unknown as ReaderAnswer·Unknown, Word, LastWord, Refused as ReaderAnswer·Refused}
 use Rattle.answers.specs.declared.WriterAnswer.{WriterAnswer}
@@ -24,7 +28,7 @@ use Rattle.answers.specs.declared.TotalAnswer.{TotalAnswer}
 use Rattle.answers.specs.declared.TotalAnswer.the-variants.{Total, Refused as TotalAnswer·Refused}
 use Rattle.answers.specs.declared.DisplayAnswer.{DisplayAnswer}
 use Rattle.answers.specs.declared.DisplayAnswer.the-variants.{Shown, Refused as DisplayAnswer·Refused}
-use Rattle.answers.specs.Answers.{Answer, started, underway, lookedUp, placed, changed, removed, endedWith, walked, walkedLast, gives, refused, Outcome, outcome, unlessRefused, paperFresh, paperStart, paperReader, paperWriter, paperTotal, paperDisplay}
+use Rattle.answers.specs.Answers.{Answer, started, underway, lookedUp, placed, changed, removed, endedWith, walked, walkedLast, givenAgain, gives, refused, Outcome, outcome, unlessRefused, storedAnswer, paperFresh, paperStart, paperEntry, paperReader, paperWriter, paperTotal, paperDisplay}
 
 module _ (panel : Record) (slots : List ℕ) (done : Outcome) where
   by-number : (n : ℕ) → 1 ≤ n → unlessRefused n panel slots done ≡ outcome panel slots (refused n)
@@ -58,6 +62,7 @@ tag (walked word) = 7
 tag (walkedLast word) = 8
 tag (gives values) = 9
 tag (refused n) = 10
+tag (givenAgain answer) = 11
 
 -- the number that it carries, or the first of two
 carried : Answer → ℕ
@@ -70,6 +75,7 @@ carried (removed reach) = reach
 carried (endedWith n) = n
 carried (walked word) = word
 carried (walkedLast word) = word
+carried (givenAgain answer) = carried answer
 carried (gives values) = getD values 0 0
 carried (refused n) = n
 
@@ -84,6 +90,7 @@ carriedSecond (removed reach) = 0
 carriedSecond (endedWith n) = 0
 carriedSecond (walked word) = 0
 carriedSecond (walkedLast word) = 0
+carriedSecond (givenAgain answer) = tag answer
 carriedSecond (gives values) = 0
 carriedSecond (refused n) = 0
 
@@ -93,6 +100,13 @@ asFresh a = getD (Made ∷ Made ∷ Made ∷ Made ∷ Made ∷ Made ∷ Made ∷
 
 asStart : Answer → StartAnswer
 asStart a = getD (Started ∷ Started ∷ Started ∷ Started ∷ Started ∷ Started ∷ Started ∷ Started ∷ Started ∷ Started ∷ StartAnswer·Refused (rowOf (carried a)) ∷ []) (tag a) Started
+
+-- a stored answer from its tag and number
+asStored : ℕ → ℕ → CommandAnswer
+asStored kind value = cond (eqb kind 4) (Value value) CommandAnswer·Unknown
+
+asEntry : Answer → EntryAnswer
+asEntry a = getD (EntryAnswer·Started ∷ EntryAnswer·Started ∷ EntryAnswer·Started ∷ EntryAnswer·Started ∷ EntryAnswer·Started ∷ EntryAnswer·Started ∷ EntryAnswer·Started ∷ EntryAnswer·Started ∷ EntryAnswer·Started ∷ EntryAnswer·Started ∷ EntryAnswer·Refused (rowOf (carried a)) ∷ GivenAgain (asStored (carriedSecond a) (carried a)) ∷ []) (tag a) EntryAnswer·Started
 
 asReader : Answer → ReaderAnswer
 asReader a = getD (ReaderAnswer·Underway ∷ ReaderAnswer·Underway ∷ Found (carried a) ∷ ReaderAnswer·Underway ∷ ReaderAnswer·Underway ∷ ReaderAnswer·Underway ∷ ReaderAnswer·Unknown ∷ Word (carried a) ∷ LastWord (carried a) ∷ ReaderAnswer·Underway ∷ ReaderAnswer·Refused (rowOf (carried a)) ∷ []) (tag a) ReaderAnswer·Underway
@@ -121,6 +135,16 @@ start-tells = LeftInverse·injective asStart paperStart back
     back : (a : StartAnswer) → asStart (paperStart a) ≡ a
     back Started = refl
     back (StartAnswer·Refused r) = ap StartAnswer·Refused (row-of-number r)
+
+pub entry-tells : (a b : EntryAnswer) → paperEntry a ≡ paperEntry b → a ≡ b
+unfolding asEntry asStored storedAnswer tag carried carriedSecond
+entry-tells = LeftInverse·injective asEntry paperEntry back
+  where
+    back : (a : EntryAnswer) → asEntry (paperEntry a) ≡ a
+    back EntryAnswer·Started = refl
+    back (GivenAgain (Value value)) = refl
+    back (GivenAgain CommandAnswer·Unknown) = refl
+    back (EntryAnswer·Refused r) = ap EntryAnswer·Refused (row-of-number r)
 
 pub reader-tells : (a b : ReaderAnswer) → paperReader a ≡ paperReader b → a ≡ b
 unfolding asReader tag carried

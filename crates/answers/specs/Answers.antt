@@ -4,10 +4,14 @@ use mathlib.Core.Bool.{Bool, true, false}
 use mathlib.Core.List.{List, [], _∷_}
 use Rattle.refusal.specs.Refusals.{numberOf}
 use Rattle.record.specs.declared.Record.{Record}
+use Rattle.record.specs.declared.CommandAnswer.{CommandAnswer}
+use Rattle.record.specs.declared.CommandAnswer.the-variants.{Value, Unknown as CommandAnswer·Unknown}
 use Rattle.answers.specs.declared.FreshAnswer.{FreshAnswer}
 use Rattle.answers.specs.declared.FreshAnswer.the-variants.{Made, Refused as FreshAnswer·Refused}
 use Rattle.answers.specs.declared.StartAnswer.{StartAnswer}
 use Rattle.answers.specs.declared.StartAnswer.the-variants.{Started, Refused as StartAnswer·Refused}
+use Rattle.answers.specs.declared.EntryAnswer.{EntryAnswer}
+use Rattle.answers.specs.declared.EntryAnswer.the-variants.{Started as EntryAnswer·Started, GivenAgain, Refused as EntryAnswer·Refused}
 use Rattle.answers.specs.declared.ReaderAnswer.{ReaderAnswer}
 use Rattle.answers.specs.declared.ReaderAnswer.the-variants.{Underway as ReaderAnswer·Underway, Found, Unknown as ReaderAnswer·Unknown, Word, LastWord, Refused as ReaderAnswer·Refused}
 use Rattle.answers.specs.declared.WriterAnswer.{WriterAnswer}
@@ -37,6 +41,8 @@ pub data Answer : Type 0 where
   walked : ℕ → Answer
   -- "and the m-th also ends the walk"
   walkedLast : ℕ → Answer
+  -- "the stored answer is given again"
+  givenAgain : Answer → Answer
   -- a call without steps: its values
   gives : List ℕ → Answer
   -- refused by that number, and nothing happened
@@ -51,6 +57,17 @@ paperFresh (FreshAnswer·Refused r) = refused (numberOf r)
 abbrev pub paperStart : StartAnswer → Answer
 paperStart Started = started
 paperStart (StartAnswer·Refused r) = refused (numberOf r)
+
+-- a station's stored answer: "with the new value or with 7"
+unfoldable pub storedAnswer : CommandAnswer → Answer
+storedAnswer (Value value) = changed value
+storedAnswer CommandAnswer·Unknown = endedWith 7
+
+-- the command entry
+abbrev pub paperEntry : EntryAnswer → Answer
+paperEntry EntryAnswer·Started = started
+paperEntry (GivenAgain answer) = givenAgain (storedAnswer answer)
+paperEntry (EntryAnswer·Refused r) = refused (numberOf r)
 
 -- a reader's step
 abbrev pub paperReader : ReaderAnswer → Answer
@@ -92,8 +109,54 @@ isUnderway (removed reach) = false
 isUnderway (endedWith n) = false
 isUnderway (walked word) = true
 isUnderway (walkedLast word) = false
+isUnderway (givenAgain answer) = false
 isUnderway (gives values) = false
 isUnderway (refused n) = false
+
+-- "A step that ends an operation hands back its answer"
+unfoldable pub hasEnded : Answer → Bool
+hasEnded started = false
+hasEnded underway = false
+hasEnded (lookedUp value) = true
+hasEnded (placed slot index) = true
+hasEnded (changed value) = true
+hasEnded (removed reach) = true
+hasEnded (endedWith n) = true
+hasEnded (walked word) = false
+hasEnded (walkedLast word) = true
+hasEnded (givenAgain answer) = false
+hasEnded (gives values) = false
+hasEnded (refused n) = false
+
+-- the call has started an operation
+unfoldable pub isStarted : Answer → Bool
+isStarted started = true
+isStarted underway = false
+isStarted (lookedUp value) = false
+isStarted (placed slot index) = false
+isStarted (changed value) = false
+isStarted (removed reach) = false
+isStarted (endedWith n) = false
+isStarted (walked word) = false
+isStarted (walkedLast word) = false
+isStarted (givenAgain answer) = false
+isStarted (gives values) = false
+isStarted (refused n) = false
+
+-- the call was refused, and nothing happened
+unfoldable pub isRefused : Answer → Bool
+isRefused started = false
+isRefused underway = false
+isRefused (lookedUp value) = false
+isRefused (placed slot index) = false
+isRefused (changed value) = false
+isRefused (removed reach) = false
+isRefused (endedWith n) = false
+isRefused (walked word) = false
+isRefused (walkedLast word) = false
+isRefused (givenAgain answer) = false
+isRefused (gives values) = false
+isRefused (refused n) = true
 
 -- what a call leaves: the record, the slots and the answer
 pub record Outcome : Type 0 where

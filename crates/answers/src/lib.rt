@@ -1,4 +1,5 @@
 // What the calls answer, an enum for each kind of call.
+use record::CommandAnswer;
 use refusal::Refusal;
 
 // Of `fresh`.
@@ -10,6 +11,14 @@ pub enum FreshAnswer {
 // Of the calls that start an operation.
 pub enum StartAnswer {
     Started,
+    Refused(Refusal),
+}
+
+// Of the command entry.
+pub enum EntryAnswer {
+    Started,
+    // the station's last command again: its stored answer
+    GivenAgain(CommandAnswer),
     Refused(Refusal),
 }
 

@@ -149,6 +149,11 @@ fn end_run(ran: Ran, slots: &mut [u64], text: &mut [u8]) {
 fn finish(ended: BenchState, slots: &[u64], text: &mut [u8]) {
     let panel = ended.panel;
     let room = output::room(ended.filled, text);
-    let filled = printing::finish(room, text, panel.reach, table::taken_slots(slots) as u64);
+    let filled = printing::finish(
+        room,
+        text,
+        panel.reach,
+        slot_words::taken::taken_slots(slots) as u64,
+    );
     output::flush(filled, text);
 }

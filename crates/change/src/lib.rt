@@ -23,7 +23,7 @@ use search::SearchAnswer;
 use search::Searched;
 use search::search_access;
 use search::search_advance;
-use search::word::word_of;
+use slot_words::word::word_of;
 
 // Action 0 clears bit 0, 1 sets it, 2 toggles it.
 fn action_masks(action: u32) -> Masks

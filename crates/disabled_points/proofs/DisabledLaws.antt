@@ -13,7 +13,7 @@ use lib.Seq.{drop-cons}
 use Rattle.refusal.specs.Judging.{both, either}
 use Rattle.refusal.proofs.Laws.{both-left, within-high}
 use Rattle.work_ranges.specs.WorkRanges.{validPoint}
-use Rattle.search.specs.Word.{pointOf, valueOf}
+use Rattle.slot_words.specs.Word.{pointOf, valueOf}
 use Rattle.disabled_points.specs.Disabled.{disabled, holdsDisabled, disabledPoints, oneOf, lowest, lowerOf}
 
 module _ (l : List ℕ) (i : ℕ) where

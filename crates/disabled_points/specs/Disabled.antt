@@ -10,7 +10,7 @@ use Rattle.record.specs.declared.Record.{Record}
 use Rattle.work_ranges.specs.WorkRanges.{validPoint}
 use Rattle.record_ranges.specs.Ranges.{inRange}
 use Rattle.answers.specs.Answers.{Answer, gives, refused}
-use Rattle.search.specs.Word.{pointOf, valueOf}
+use Rattle.slot_words.specs.Word.{pointOf, valueOf}
 
 -- "A point is *disabled* if bit 0 is set": by its value
 unfoldable pub disabled : ℕ → Bool

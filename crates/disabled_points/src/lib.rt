@@ -9,8 +9,8 @@ use record::Record;
 use record_ranges::is_in_range;
 use refusal::Refusal;
 use refusal::tests::both_hold;
-use search::word::point_of;
-use search::word::value_of;
+use slot_words::word::point_of;
+use slot_words::word::value_of;
 use work_ranges::is_valid_point;
 
 fn is_disabled(value: u32) -> bool

@@ -1,5 +1,6 @@
 -- Part 2 of the writer's step: the one access. "A step reads or stores exactly one slot, or reads or stores the reach".
 use Prim.Native.Nat.{ℕ}
+use mathlib.Core.Bool.{Bool, true, false}
 use mathlib.Core.List.{List}
 use lib.ListN.{set}
 use Rattle.hash.specs.Position.{positionOf}
@@ -22,3 +23,9 @@ unfoldable pub slotsAfter : List ℕ → WriterAccess → List ℕ
 slotsAfter slots (Read access) = slots
 slotsAfter slots (StoreReach reach) = slots
 slotsAfter slots (StoreSlot store) = set slots (store .slot) (store .word)
+
+-- the access stores a slot
+unfoldable pub storesSlot : WriterAccess → Bool
+storesSlot (Read access) = false
+storesSlot (StoreReach reach) = false
+storesSlot (StoreSlot store) = true

@@ -22,7 +22,7 @@ use Rattle.search.specs.declared.Searched.{Searched}
 use Rattle.search.specs.declared.Searched.the-variants.{Going, Answered}
 use Rattle.search.specs.declared.SearchAnswer.the-variants.{Found as SearchAnswer·Found, Unknown}
 use Rattle.answers.specs.Answers.{isUnderway, underway, placed, endedWith}
-use Rattle.search.specs.Word.{wordOf}
+use Rattle.slot_words.specs.Word.{wordOf}
 use Rattle.search.specs.Search.{searchAdvance}
 use Rattle.search.proofs.SearchLaws.{slotRead, search-inside, searchLeft, searchedLeft, searchedInRange, answerInRange, OneStep, first-step, probe-step}
 use Rattle.moves.specs.declared.memory.WriterAccess.the-variants.{StoreReach}

@@ -19,7 +19,7 @@ use search::Searched;
 use search::access::ReadAccess;
 use search::search_access;
 use search::search_advance;
-use search::word::word_of;
+use slot_words::word::word_of;
 
 // Part 1: the access that comes next.
 pub fn put_access(put: Put, m: u32, reach: u32) -> WriterAccess

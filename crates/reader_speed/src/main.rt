@@ -5,8 +5,8 @@ use answers::ReaderAnswer;
 use reader_step::step_reader;
 use record::Record;
 use record::parts::fresh_record;
-use search::word::value_of;
-use search::word::word_of;
+use slot_words::word::value_of;
+use slot_words::word::word_of;
 use table::start_lookup;
 use table::start_walk;
 

@@ -1,1 +1,2 @@
 pub mod RemovalLaws
+pub mod RemovalAgreement

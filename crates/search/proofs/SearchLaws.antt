@@ -20,7 +20,7 @@ use Rattle.search.specs.declared.Searched.{Searched}
 use Rattle.search.specs.declared.Searched.the-variants.{Going, Answered}
 use Rattle.search.specs.declared.SearchAnswer.{SearchAnswer}
 use Rattle.search.specs.declared.SearchAnswer.the-variants.{Found, Unknown}
-use Rattle.search.specs.Word.{pointOf, valueOf}
+use Rattle.slot_words.specs.Word.{pointOf, valueOf}
 use Rattle.search.specs.Search.{searchAccess, firstProbe, nextProbe, probeAdvance, searchAdvance}
 
 -- the steps that are left of a search, at most

@@ -11,7 +11,7 @@ use Rattle.search.specs.declared.access.ReadAccess.the-variants.{Reach, 
 use Rattle.search.specs.declared.Searched.{Searched}
 use Rattle.search.specs.declared.Searched.the-variants.{Going, Answered}
 use Rattle.search.specs.declared.SearchAnswer.the-variants.{Found, Unknown}
-use Rattle.search.specs.Word.{pointOf, valueOf}
+use Rattle.slot_words.specs.Word.{pointOf, valueOf}
 
 -- part 1: "read the reach r; then positions 1 to r"
 unfoldable pub searchAccess : ℕ → ℕ → Search → ReadAccess

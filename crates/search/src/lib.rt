@@ -1,15 +1,14 @@
 // A search for a point, by lookups and by the writer's operations: read the reach r, then positions 1 to r.
 pub mod access;
-pub mod word;
 
 ghost use mathlib.Core.Path.{_≡_};
 ghost use Rattle.search.specs.Search.{searchAccess, firstProbe, probeAdvance, searchAdvance};
 use crate::access::ReadAccess;
-use crate::word::point_of;
-use crate::word::value_of;
 use record::Place;
 use record::Probe;
 use record::Search;
+use slot_words::word::point_of;
+use slot_words::word::value_of;
 
 // How a search stands after one of its steps.
 pub enum Searched {

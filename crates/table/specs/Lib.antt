@@ -1,4 +1,3 @@
 pub mod Starts
 pub mod FreshPanel
 pub mod ReaderFacts
-pub mod Taken

@@ -2,7 +2,6 @@
 // slots lent, and gives the record and the answer that document 01 states.
 mod fresh_panel;
 mod starts;
-mod taken;
 
 pub use fresh_panel::FreshOutcome;
 pub use fresh_panel::fresh;
@@ -10,4 +9,3 @@ pub use starts::StartOutcome;
 pub use starts::judge_lookup;
 pub use starts::start_lookup;
 pub use starts::start_walk;
-pub use taken::taken_slots;

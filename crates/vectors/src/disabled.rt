@@ -9,7 +9,7 @@ use disabled_points::disabled_point;
 use disabled_points::disabled_total;
 use record::Record;
 use record::parts::fresh_record;
-use search::word::word_of;
+use slot_words::word::word_of;
 
 pub(crate) fn run() {
     none();

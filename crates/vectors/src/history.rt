@@ -11,8 +11,8 @@ use answers::WriterAnswer;
 use reader_step::step_reader;
 use record::Record;
 use record::parts::fresh_record;
-use search::word::point_of;
-use search::word::value_of;
+use slot_words::word::point_of;
+use slot_words::word::value_of;
 use table::StartOutcome;
 use table::start_lookup;
 use table::start_walk;
@@ -61,7 +61,7 @@ fn report(now: History, slots: &[u64], made: u32) {
     number(now.sum);
     levels(panel);
     text(b" stored");
-    word(table::taken_slots(slots) as u64);
+    word(slot_words::taken::taken_slots(slots) as u64);
     line_end();
 }
 

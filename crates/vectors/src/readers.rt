@@ -9,7 +9,7 @@ use answers::StartAnswer;
 use reader_step::step_reader;
 use record::Record;
 use record::parts::fresh_record;
-use search::word::word_of;
+use slot_words::word::word_of;
 use table::start_lookup;
 use table::start_walk;
 

@@ -31,7 +31,7 @@ pub struct WriterOutcome {
     pub answer: WriterAnswer,
 }
 
-pub(crate) fn has_no_work(work: WriterWork) -> bool
+pub fn has_no_work(work: WriterWork) -> bool
     ensures { λ r. ⌜ r ≡ isIdle work ⌝ }
 {
     match work {

@@ -8,7 +8,7 @@ use borrow.Author.Needs.{needs}
 use lib.Dec.{ltb}
 use Rattle.refusal.proofs.Laws.{both-left, both-right}
 use Rattle.refusal.specs.Judging.{both}
-use Rattle.search.specs.Word.{pointOf}
+use Rattle.slot_words.specs.Word.{pointOf}
 use Rattle.disabled_points.specs.Disabled.{holdsDisabled, lowerOf}
 use Rattle.disabled_points.proofs.DisabledLaws.{not-lower}
 use Rattle.disabled_points.proofs.lower.Statement.{statement}

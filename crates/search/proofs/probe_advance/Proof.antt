@@ -6,7 +6,7 @@ use borrow.Author.Tests.{lt-ltb, le-ltb, eq-eqb, ne-eqb}
 use borrow.Author.Needs.{needs}
 use Rattle.search.specs.declared.Searched.the-variants.{Answered}
 use Rattle.search.specs.declared.SearchAnswer.the-variants.{Found}
-use Rattle.search.specs.Word.{pointOf}
+use Rattle.slot_words.specs.Word.{pointOf}
 use Rattle.search.specs.Search.{probeAdvance, nextProbe}
 use Rattle.search.proofs.probe_advance.Statement.{statement}
 use Rattle.search.proofs.probe_advance.Tie as tie

@@ -1,6 +1,6 @@
 // How many slots are taken.
 ghost use mathlib.Core.Path.{_≡_};
-ghost use Rattle.table.specs.Taken.{takenSlots};
+ghost use Rattle.slot_words.specs.Taken.{takenSlots};
 
 pub fn taken_slots(slots: &[u64]) -> usize
     ensures { λ r. ⌜ r ≡ takenSlots (now (slots .entry)) ⌝ }

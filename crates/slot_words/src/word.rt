@@ -1,6 +1,6 @@
 // A slot's word and its two halves.
 ghost use mathlib.Core.Path.{_≡_};
-ghost use Rattle.search.specs.Word.{pointOf, valueOf, wordOf};
+ghost use Rattle.slot_words.specs.Word.{pointOf, valueOf, wordOf};
 
 pub fn point_of(word: u64) -> u32
     ensures { λ r. ⌜ r ≡ pointOf word ⌝ }

@@ -1,4 +1,4 @@
--- `table::taken::taken_slots` meets its contract: the count so far and the slots left give the whole.
+-- `slot_words::taken::taken_slots` meets its contract: the count so far and the slots left give the whole.
 -- Assumes nothing.
 use Prim.Native.Nat.{_+_, _-_, _≤_}
 use mathlib.Core.Logic.{⊎-elim}
@@ -8,10 +8,10 @@ use borrow.Author.Tests.{eq-eqb, ne-eqb}
 use borrow.Author.Needs.{needs}
 use denote.Ref.{now}
 use lib.ListN.{length, drop}
-use Rattle.table.specs.Taken.{takenSlots}
-use Rattle.table.proofs.TakenLaws.{taken-more, taken-same, taken-end}
-use Rattle.table.proofs.taken.taken_slots.Statement.{statement}
-use Rattle.table.proofs.taken.taken_slots.Tie as tie
+use Rattle.slot_words.specs.Taken.{takenSlots}
+use Rattle.slot_words.proofs.TakenLaws.{taken-more, taken-same, taken-end}
+use Rattle.slot_words.proofs.taken.taken_slots.Statement.{statement}
+use Rattle.slot_words.proofs.taken.taken_slots.Tie as tie
 
 abbrev Inv-loop : tie.InvT-loop
 Inv-loop slots count₀ i₀ count i = (i ≤ length slots) × (count ≤ i) × (count + takenSlots (drop i slots) ≡ takenSlots slots)

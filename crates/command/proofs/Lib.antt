@@ -1,0 +1,2 @@
+mod FrameTaken
+pub mod CommandLaws

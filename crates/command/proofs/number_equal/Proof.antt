@@ -1,0 +1,24 @@
+-- `command::number_equal` meets its contract, by its test.
+-- Assumes nothing.
+use mathlib.Core.Path.{sym, _∙_}
+use Rattle.command.specs.Command.{numberEqual}
+use borrow.Author.Needs.{needs}
+use Rattle.command.proofs.number_equal.Statement.{statement}
+use Rattle.command.proofs.number_equal.Tie as tie
+
+both-hold-requires : tie.Need-both-hold-requires
+both-hold-requires c κs = search needs
+
+returns : tie.Need-returns
+unfolding numberEqual
+returns c slots = rw (sym (c .before .both-hold .ensures) ∙ c .if1 .taken)
+
+refuse-requires : tie.Need-refuse-requires
+refuse-requires c κs = search needs
+
+returns-2 : tie.Need-returns-2
+unfolding numberEqual
+returns-2 c slots = rw (sym (c .before .before .both-hold .ensures) ∙ c .before .if1 .left) (c .refuse .ensures slots)
+
+pub number-equal-spec : {M : Type 1} → statement M
+number-equal-spec = tie.close (tie.spec both-hold-requires returns refuse-requires returns-2)

@@ -1,0 +1,161 @@
+-- Demand 3: the single claim about every whole list of calls, for every m and k in range.
+use Prim.Native.Nat.{ℕ, _+_, _-_, _*_, _≤_, _<_}
+use mathlib.Core.Bool.{cond}
+use mathlib.Core.List.{List, [], _∷_}
+use mathlib.Core.Logic.{_≢_}
+use mathlib.Core.Path.{_≡_}
+use lib.Dec.{eqb}
+use Rattle.refusal.specs.Judging.{both}
+use Rattle.slot_words.specs.Word.{pointOf, valueOf}
+use Rattle.answers.specs.Answers.{Answer, started, underway, lookedUp, placed, changed, removed, endedWith, walked, walkedLast, givenAgain, gives, refused}
+use Rattle.plain_list.specs.PlainList.{Rows, absent, present, entryOf, lookupRow, Operation, nothing, put, change, removal, Each, Some, Shows}
+use Rattle.command.specs.declared.Sent.{Sent}
+use Rattle.history.specs.declared.Call.{Call}
+use Rattle.history.specs.declared.Call.the-variants.{StartLookup, StartWalk, StepReader, StartPut, StartChange, StartRemoval, StartCommand, StepWriter}
+use Rattle.history.specs.World.{Request, Role, readerStart, readerStep, writerStart, writerStep, roleOf, WriterNotes, ReaderNotes, Given, World, outcomeOf, next, freshWorld}
+
+-- a command's change gave this answer
+unfoldable pub Gave : List Given → Answer → Sent → Type 0
+Gave ended answer sent = Some (λ (given : Given). (given .sent ≡ sent) × (given .answer ≡ answer)) ended
+
+-- a start: "an answer given again is the one its change gave"; no call is refused with 1
+abbrev pub StartRight : List Given → List Sent → Answer → Type 0
+StartRight ended command started = Unit {0}
+StartRight ended command underway = ⊥
+StartRight ended command (lookedUp value) = ⊥
+StartRight ended command (placed slot index) = ⊥
+StartRight ended command (changed value) = ⊥
+StartRight ended command (removed reach) = ⊥
+StartRight ended command (endedWith n) = ⊥
+StartRight ended command (walked word) = ⊥
+StartRight ended command (walkedLast word) = ⊥
+StartRight ended command (givenAgain answer) = Some (Gave ended answer) command
+StartRight ended command (gives values) = ⊥
+StartRight ended command (refused n) = n ≢ 1
+
+-- "every lookup that has ended, one that the plain list gives after some call from its first step to its last"; at most k + 1 steps
+pub record LookupRight (k : ℕ) (notes : ReaderNotes) (answer : Answer) : Type 0 where
+  pub one-moment : Some (λ (rows : Rows). answer ≡ lookupRow (notes .point) rows) (notes .moments)
+  pub in-time : notes .steps ≤ k + 1
+
+-- a walk: "each report was true when read", a report being a word that is not 0
+unfoldable pub ReportTrue : Rows → ℕ → ℕ → Type 0
+ReportTrue rows slot word = word ≢ 0 → entryOf (pointOf word) rows ≡ present (valueOf word) slot
+
+-- how many of the words are of this point
+unfoldable pub reports : ℕ → List ℕ → ℕ
+reports point [] = 0
+reports point (word ∷ words) = cond (eqb (pointOf word) point) 1 0 + reports point words
+
+-- "A point on the list throughout the walk is reported exactly once"
+unfoldable pub ReportedOnce : ReaderNotes → Type 0
+ReportedOnce notes = (point : ℕ) → Each (λ (rows : Rows). entryOf point rows ≢ absent) (notes .moments) → reports point (notes .words) ≡ 1
+
+-- "slots 0 to m − 1, one a step, m steps"
+pub record WalkRight (rows : Rows) (notes : ReaderNotes) (word : ℕ) : Type 0 where
+  pub true-now : ReportTrue rows (notes .steps - 1) word
+
+-- a reader's step, by its answer
+abbrev pub ReaderRight : ℕ → ℕ → Rows → ReaderNotes → Answer → Type 0
+ReaderRight m k rows notes started = ⊥
+ReaderRight m k rows notes underway = notes .steps ≤ k
+ReaderRight m k rows notes (lookedUp value) = LookupRight k notes (lookedUp value)
+ReaderRight m k rows notes (placed slot index) = ⊥
+ReaderRight m k rows notes (changed value) = ⊥
+ReaderRight m k rows notes (removed reach) = ⊥
+ReaderRight m k rows notes (endedWith n) = LookupRight k notes (endedWith n)
+ReaderRight m k rows notes (walked word) = WalkRight rows notes word × (notes .steps < m)
+ReaderRight m k rows notes (walkedLast word) = WalkRight rows notes word × (notes .steps ≡ m) × ReportedOnce notes
+ReaderRight m k rows notes (givenAgain answer) = ⊥
+ReaderRight m k rows notes (gives values) = ⊥
+ReaderRight m k rows notes (refused n) = n ≢ 1
+
+-- a put: "At most 2k + 2 steps"; a change: "At most k + 2"; a removal: "At most k + 3"
+unfoldable pub stepBound : ℕ → Operation → ℕ
+stepBound k nothing = 0
+stepBound k (put point value) = 2 * k + 2
+stepBound k (change point keep flip) = k + 2
+stepBound k (removal point) = k + 3
+
+-- "Every put, change or removal that has ended gave the answer above": what the plain list answered when it was fed, once, within the bound
+pub record WriterEnded (k : ℕ) (notes : WriterNotes) (answer : Answer) : Type 0 where
+  pub as-told : answer ≡ notes .told
+  pub fed-once : notes .feeds ≡ 1
+  pub in-time : notes .steps ≤ stepBound k (notes .asked)
+
+-- the writer's step, by its answer
+abbrev pub WriterRight : ℕ → WriterNotes → Answer → Type 0
+WriterRight k notes started = ⊥
+WriterRight k notes underway = notes .steps < stepBound k (notes .asked)
+WriterRight k notes (lookedUp value) = ⊥
+WriterRight k notes (placed slot index) = WriterEnded k notes (placed slot index)
+WriterRight k notes (changed value) = WriterEnded k notes (changed value)
+WriterRight k notes (removed reach) = WriterEnded k notes (removed reach)
+WriterRight k notes (endedWith n) = WriterEnded k notes (endedWith n)
+WriterRight k notes (walked word) = ⊥
+WriterRight k notes (walkedLast word) = ⊥
+WriterRight k notes (givenAgain answer) = ⊥
+WriterRight k notes (gives values) = ⊥
+WriterRight k notes (refused n) = n ≢ 1
+
+-- a call's answer is right, by what the call is for
+abbrev pub Right : ℕ → ℕ → World → World → Role → Answer → Type 0
+Right m k before after (readerStart reader point) answer = StartRight (before .ended) [] answer
+Right m k before after (readerStep reader) answer = ReaderRight m k (after .rows) (after .readers reader) answer
+Right m k before after (writerStart operation command) answer = StartRight (before .ended) command answer
+Right m k before after writerStep answer = WriterRight k (after .writer) answer
+
+-- how many of the commands are of this station and number
+unfoldable pub times : ℕ → ℕ → List Sent → ℕ
+times station number [] = 0
+times station number (sent ∷ rest) =
+    cond (both (eqb (sent .station) station) (eqb (sent .number) number)) 1 0 + times station number rest
+
+-- the commands whose change has ended
+unfoldable pub sents : List Given → List Sent
+sents [] = []
+sents (given ∷ rest) = given .sent ∷ sents rest
+
+-- what holds before the first call and after each
+pub record Stands (m k : ℕ) (world : World) : Type 0 where
+  pub m-stays : world .panel .m ≡ m
+  pub k-stays : world .panel .k ≡ k
+  -- "After each call the slots are 0 except for each row's word at its place"
+  pub slots-show : Shows m (world .slots) (world .rows)
+  -- each command acts at most once, whatever its point and action
+  pub acts-once : (station number : ℕ) → times station number (world .acts) ≤ 1
+  -- and its change ends at most once, so that it gave one answer
+  pub ends-once : (station number : ℕ) → times station number (sents (world .ended)) ≤ 1
+
+-- the claim of a list of calls that begins in this world
+abbrev pub Holds : ℕ → ℕ → World → List Request → Type 0
+Holds m k world [] = Stands m k world
+Holds m k world (request ∷ rest) =
+    Stands m k world × Right m k world (next world request) (roleOf request (request .call)) (outcomeOf world request .answer) × Holds m k (next world request) rest
+
+-- the claim
+abbrev pub Claim : ℕ → ℕ → List Request → Type 0
+Claim m k requests = Holds m k (freshWorld m k) requests
+
+-- a number of 32 bits
+abbrev pub Fits32 : ℕ → Type 0
+Fits32 x = x < 4294967296
+
+-- the arguments of a call fit their machine types
+abbrev pub ArgumentsFit : Call → Type 0
+ArgumentsFit (StartLookup reader point) = Fits32 reader × Fits32 point
+ArgumentsFit (StartWalk reader) = Fits32 reader
+ArgumentsFit (StepReader reader) = Fits32 reader
+ArgumentsFit (StartPut point value) = Fits32 point × Fits32 value
+ArgumentsFit (StartChange point keep flip) = Fits32 point × Fits32 keep × Fits32 flip
+ArgumentsFit (StartRemoval point) = Fits32 point
+ArgumentsFit StartCommand = Unit {0}
+ArgumentsFit StepWriter = Unit {0}
+
+-- and so do those of each call of a list, with the bytes of its frame
+abbrev pub AllFit : List Request → Type 0
+AllFit requests = Each (λ (request : Request). ArgumentsFit (request .call) × Each (λ (byte : ℕ). byte < 256) (request .frame)) requests
+
+-- "Demand 3 is a single claim, for every m and k in range, about every whole list of these calls with any arguments"
+abbrev pub Demand3 : Type 0
+Demand3 = (m k : ℕ) → 1 ≤ m → m ≤ 4096 → 1 ≤ k → k ≤ 64 → (requests : List Request) → AllFit requests → Claim m k requests

@@ -1,0 +1,4 @@
+pub mod RowLaws
+pub mod IndexLaws
+pub mod Agreement
+pub mod Changes

@@ -25,7 +25,7 @@ use Rattle.record.specs.declared.CommandAnswer.the-variants.{Value, Unknown as 
 use Rattle.record.specs.declared.WriterWork.the-variants.{Changing}
 use Rattle.record.specs.Parts.{withStation}
 use Rattle.work_ranges.specs.WorkRanges.{validPoint, alterationInRange, changeStageInRange, changeInRange}
-use Rattle.answers.specs.Answers.{Answer, changed, endedWith, storedAnswer, hasEnded}
+use Rattle.answers.specs.Answers.{Answer, changed, endedWith, storedAnswer}
 use Rattle.plain_list.specs.PlainList.{Rows, absent, entryOf, withValue, Told, tells, changeEntry, changeRow}
 use Rattle.plain_list.proofs.RowLaws.{Steady, steady-same, steady-value}
 use Rattle.plain_list.proofs.Agreement.{valid-low, Agrees, Tight, tight-value}
@@ -41,7 +41,7 @@ use Rattle.moves.specs.declared.memory.WriterAccess.{WriterAccess}
 use Rattle.moves.specs.declared.memory.WriterAccess.the-variants.{Read}
 use Rattle.moves.specs.Memory.{storeWord, accessRead, slotsAfter, storesSlot}
 use Rattle.moves.specs.Moves.{isIdle, goesOn, ends, updated}
-use Rattle.moves.proofs.StepAgreement.{Standing, standing, ChangeOK, FlipFits, WorkOK, begun, After, isCommanded, no-command, command-ends, StepOK, goes-on, ends-fed}
+use Rattle.moves.proofs.StepAgreement.{Standing, standing, ChangeOK, FlipFits, WorkOK, begun, After, isCommanded, isWriterEnd, no-command, command-ends, StepOK, goes-on, ends-fed}
 use Rattle.change.specs.Change.{actionMasks, masksOf, newValue, changeStageAccess, changeAccess, alterationEnds, commandEnds, changeAt, changeAnswered, changeSearched, changeStores, changeStageAdvance, changeAdvance}
 
 -- what the plain list says to this change
@@ -78,7 +78,7 @@ module _ (panel : Record) (slots : List ℕ) (rows : Rows) (change : Change) (ag
   q = change .point
 
   -- the end of a change, which stores nothing but a station's last command in the record
-  ending : (access : WriterAccess) (alteration : Alteration) (stored : CommandAnswer) (answer : Answer) (told : Told) → change .alteration ≡ alteration → storedAnswer stored ≡ answer → hasEnded answer ≡ true → answer ≡ told .answer → Steady rows (told .rows) → Agrees m k (panel .reach) (panel .counts) (slotsAfter slots access) (told .rows) → Tight m k (panel .reach) (told .rows) → StepOK panel slots access (ends (alterationEnds alteration q stored) answer) rows told (Changing change)
+  ending : (access : WriterAccess) (alteration : Alteration) (stored : CommandAnswer) (answer : Answer) (told : Told) → change .alteration ≡ alteration → storedAnswer stored ≡ answer → isWriterEnd answer ≡ true → answer ≡ told .answer → Steady rows (told .rows) → Agrees m k (panel .reach) (panel .counts) (slotsAfter slots access) (told .rows) → Tight m k (panel .reach) (told .rows) → StepOK panel slots access (ends (alterationEnds alteration q stored) answer) rows told (Changing change)
   unfolding alterationEnds ends updated withStation
   ending access (Given masks) stored answer told is same h e steady after tight =
       ends-fed refl refl h e steady (no-command (ap isCommanded is) refl) (record { agrees = after; work = tight })
@@ -91,7 +91,7 @@ module _ (panel : Record) (slots : List ℕ) (rows : Rows) (change : Change) (ag
   on-stage read stage h = goes-on refl refl refl refl refl refl refl (record { agrees = agrees; work = (h, flips) })
 
   searched : (read : ReadAccess) (after : Searched) → Tight m k (panel .reach) rows → Knows (entryOf q rows ≡ absent) m k q rows after → StepOK panel slots (Read read) (changeSearched change after) rows (changeTold change rows) (Changing change)
-  unfolding changeSearched changeAnswered commandEnds changeRow changeEntry hasEnded storedAnswer slotsAfter
+  unfolding changeSearched changeAnswered commandEnds changeRow changeEntry isWriterEnd storedAnswer slotsAfter
   searched read (Going search) tight h = on-stage read (Searching search) (h, tight)
   searched read (Answered (SearchAnswer·Found place)) tight h = on-stage read (ChangeStage·Found place) (standing m k q rows place h, tight)
   searched read (Answered Unknown) tight h =
@@ -104,7 +104,7 @@ module _ (panel : Record) (slots : List ℕ) (rows : Rows) (change : Change) (ag
 
   -- the row's word is stored anew
   stores : (place : Place) → Standing m k q rows place → Tight m k (panel .reach) rows → StepOK panel slots (storeWord m q (place .index) (wordOf q (new place))) (changeStores change place) rows (changeTold change rows) (Changing change)
-  unfolding changeStores commandEnds storeWord slotsAfter changeRow changeEntry newValue hasEnded storedAnswer
+  unfolding changeStores commandEnds storeWord slotsAfter changeRow changeEntry newValue isWriterEnd storedAnswer
   stores place stands tight =
       let told : changeTold change rows ≡ tells (withValue q (new place) rows) (changed (new place)) = rw (stands .found) in
       let fits = new-fits (change .alteration) (place .value) (flip-fits m k (panel .reach) slots rows (change .alteration) flips) (agrees .held q (place .value) (positionOf m q (place .index)) (stands .found) .fits) in

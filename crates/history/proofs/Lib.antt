@@ -1,1 +1,8 @@
 pub mod CallLaws
+pub mod Readers
+pub mod Commands
+pub mod Invariant
+pub mod ReaderCalls
+pub mod WriterStarts
+pub mod WriterSteps
+pub mod Theorem

@@ -175,9 +175,9 @@ witnessed notes rows =
 -- the notes on a reader after the call
 unfoldable pub readerNow : Answer → Rows → Role → ℕ → ReaderNotes → ReaderNotes
 readerNow answer rows (readerStart reader point) n notes =
-    cond (both (eqb reader n) (isStarted answer)) (begunReader point) (witnessed notes rows)
+    cond (both (isStarted answer) (eqb reader n)) (begunReader point) (witnessed notes rows)
 readerNow answer rows (readerStep reader) n notes =
-    cond (both (eqb reader n) (not (isRefused answer))) (steppedReader notes answer rows) (witnessed notes rows)
+    cond (both (not (isRefused answer)) (eqb reader n)) (steppedReader notes answer rows) (witnessed notes rows)
 readerNow answer rows (writerStart operation command) n notes = witnessed notes rows
 readerNow answer rows writerStep n notes = witnessed notes rows
 

@@ -28,7 +28,7 @@ use Rattle.record.specs.declared.RemovalStage.{RemovalStage}
 use Rattle.record.specs.declared.RemovalStage.the-variants.{Searching as RemovalStage·Searching, Found as RemovalStage·Found, Lowering}
 use Rattle.record.specs.declared.WriterWork.{WriterWork}
 use Rattle.record.specs.declared.WriterWork.the-variants.{Idle, Putting, Changing, Removing}
-use Rattle.answers.specs.Answers.{Answer, underway, removed, storedAnswer, hasEnded}
+use Rattle.answers.specs.Answers.{Answer, started, underway, lookedUp, placed, changed, removed, endedWith, walked, walkedLast, givenAgain, gives, refused, storedAnswer}
 use Rattle.plain_list.specs.PlainList.{Rows, absent, present, entryOf, largestIndex, Told}
 use Rattle.plain_list.proofs.RowLaws.{present≢absent, Steady}
 use Rattle.plain_list.proofs.IndexLaws.{Lowest}
@@ -122,6 +122,21 @@ pub data Recorded (stations after : List Station) (answer : Answer) : WriterWork
   no-command : {work : WriterWork} → isCommand work ≡ false → after ≡ stations → Recorded stations after answer work
   command-ends : {change : Change} (command : Command) (stored : CommandAnswer) → change .alteration ≡ Commanded command → storedAnswer stored ≡ answer → after ≡ withNumbered stations (command .station) (record { number = command .number; point = change .point; action = command .action; answer = stored }) → Recorded stations after answer (Changing change)
 
+-- what ends one of the writer's operations
+unfoldable pub isWriterEnd : Answer → Bool
+isWriterEnd started = false
+isWriterEnd underway = false
+isWriterEnd (lookedUp value) = false
+isWriterEnd (placed slot index) = true
+isWriterEnd (changed value) = true
+isWriterEnd (removed reach) = true
+isWriterEnd (endedWith n) = true
+isWriterEnd (walked word) = false
+isWriterEnd (walkedLast word) = false
+isWriterEnd (givenAgain answer) = false
+isWriterEnd (gives values) = false
+isWriterEnd (refused n) = false
+
 module _ (panel : Record) (slots : List ℕ) (access : WriterAccess) (move : WriterMove) where
   -- the step leaves the stations
   abbrev pub Leaves : Type 0
@@ -137,7 +152,7 @@ module _ (panel : Record) (slots : List ℕ) (access : WriterAccess) (move : Wri
     -- it stores no slot, and the operation goes on
     goes-on : storesSlot access ≡ false → fedBy work ≡ 0 → fedBy (move .work) ≡ 0 → begun (move .work) ≡ begun work → isIdle (move .work) ≡ false → move .answer ≡ underway → Leaves → After rows → StepOK rows told work
     -- it is the operation's last, and the first that feeds the list
-    ends-fed : fedBy work ≡ 0 → move .work ≡ Idle → hasEnded (move .answer) ≡ true → move .answer ≡ told .answer → Steady rows (told .rows) → Recorded (panel .stations) (updated panel (move .update) .stations) (move .answer) work → After (told .rows) → StepOK rows told work
+    ends-fed : fedBy work ≡ 0 → move .work ≡ Idle → isWriterEnd (move .answer) ≡ true → move .answer ≡ told .answer → Steady rows (told .rows) → Recorded (panel .stations) (updated panel (move .update) .stations) (move .answer) work → After (told .rows) → StepOK rows told work
     -- it stores the slot, and the reach is still to be lowered
     empties : storesSlot access ≡ true → fedBy work ≡ 0 → fedBy (move .work) ≡ 1 → begun (move .work) ≡ begun work → isIdle (move .work) ≡ false → move .answer ≡ underway → told .answer ≡ removed (largestIndex (panel .m) (panel .k) (told .rows)) → Steady rows (told .rows) → Leaves → After (told .rows) → StepOK rows told work
     -- it lowers the reach of a list that has been fed

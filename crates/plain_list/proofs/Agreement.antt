@@ -101,6 +101,17 @@ module _ (m k reach : ℕ) (counts slots : List ℕ) (rows : Rows) (agrees : Agr
           let d : valueOf (getD slots place 0) ≡ w .value = rw (a .shows) (word-value (w .point) (w .value) (a .fits)) in
           sym (ap (λ (x : ℕ). entryOf x rows) c) ∙ w .found ∙ ap (λ (x : ℕ). present x place) (sym d)
 
+  -- a word in a slot is that of a row at this place
+  pub word-row : (place : ℕ) → place < m → getD slots place 0 ≢ 0 → entryOf (pointOf (getD slots place 0)) rows ≡ present (valueOf (getD slots place 0)) place
+  word-row place inside some = go (agrees .free place inside)
+    where
+      go : (getD slots place 0 ≡ 0) ⊎ At rows place → entryOf (pointOf (getD slots place 0)) rows ≡ present (valueOf (getD slots place 0)) place
+      go (inl z) = absurd (some z)
+      go (inr w) =
+          let a = agrees .held (w .point) (w .value) place (w .found) in
+          let b : pointOf (getD slots place 0) ≡ w .point = rw (a .shows) (word-point (w .point) (w .value) (a .fits)) in
+          shown-row (pointOf (getD slots place 0)) place (omega (arith, valid-low (w .point) (a .valid))) inside refl
+
   -- a row's own slot shows its point
   pub row-shown : (q value place : ℕ) → entryOf q rows ≡ present value place → pointOf (getD slots place 0) ≡ q
   row-shown q value place e = let a = agrees .held q value place e in rw (a .shows) (word-point q value (a .fits))

@@ -25,7 +25,7 @@ use Rattle.record.specs.declared.PutStage.the-variants.{Searching, Scanning, Fo
 use Rattle.record.specs.declared.WriterWork.the-variants.{Putting}
 use Rattle.record.specs.Parts.{withReach, withCount, countOf}
 use Rattle.work_ranges.specs.WorkRanges.{validPoint, putStageInRange, putInRange}
-use Rattle.answers.specs.Answers.{underway, placed, endedWith, hasEnded}
+use Rattle.answers.specs.Answers.{underway, placed, endedWith}
 use Rattle.plain_list.specs.PlainList.{row, Rows, absent, entryOf, withValue, isPlace, indexOf, tells, addRow, putEntry, putRow}
 use Rattle.plain_list.proofs.RowLaws.{entry-same, steady-same, steady-value, steady-added}
 use Rattle.plain_list.proofs.IndexLaws.{Lowest, index-is, lowest-one, free-is, none-free, indexed-behind}
@@ -44,7 +44,7 @@ use Rattle.moves.specs.declared.update.Update.the-variants.{Nothing, Reach, Cou
 use Rattle.moves.specs.Counts.{counted}
 use Rattle.moves.specs.Memory.{storeWord, accessRead, slotsAfter, storesSlot}
 use Rattle.moves.specs.Moves.{WriterMove, isIdle, goesOn, ends, updated}
-use Rattle.moves.proofs.StepAgreement.{Standing, standing, Below, PutOK, WorkOK, begun, After, no-command, StepOK, goes-on, ends-fed}
+use Rattle.moves.proofs.StepAgreement.{Standing, standing, Below, PutOK, WorkOK, begun, After, isWriterEnd, no-command, StepOK, goes-on, ends-fed}
 use Rattle.put.specs.Put.{putStageAccess, putAccess, putAt, putAnswered, putSearched, putScanned, putTakes, putStageAdvance, putAdvance}
 
 module _ (panel : Record) (slots : List ℕ) (rows : Rows) (put : Put) (agrees : Agrees (panel .m) (panel .k) (panel .reach) (panel .counts) slots rows) (valid : validPoint (put .point) ≡ true) (fits : put .value < 4294967296) where
@@ -93,7 +93,7 @@ module _ (panel : Record) (slots : List ℕ) (rows : Rows) (put : Put) (agrees :
       rw (below .none, none-free m k q rows (λ j a b. place-taken j (below .taken j a (omega arith))))
 
   scanned : (index : ℕ) → within 1 index k ≡ true → Below m q slots rows index → Tight m k (panel .reach) rows → StepOK panel slots (Read (Slot (positionOf m q index))) (putScanned k put index (word-at index)) rows (putRow m k q (put .value) rows) (Putting put)
-  unfolding putScanned ends hasEnded slotsAfter updated
+  unfolding putScanned ends isWriterEnd slotsAfter updated
   scanned index inside below tight = go (eqb (word-at index) 0) refl (ltb index k) refl
     where
       go : (empty : Bool) → eqb (word-at index) 0 ≡ empty → (more : Bool) → ltb index k ≡ more → StepOK panel slots (Read (Slot (positionOf m q index))) (cond empty (putAt put (Chosen index)) (cond more (putAt put (Scanning (index + 1))) (ends Nothing (endedWith 6)))) rows (putRow m k q (put .value) rows) (Putting put)
@@ -140,7 +140,7 @@ module _ (panel : Record) (slots : List ℕ) (rows : Rows) (put : Put) (agrees :
 
   -- the slot is stored, and the index counted
   stores : (index : ℕ) → within 1 index k ≡ true → Below m q slots rows index → word-at index ≡ 0 → Tight m k (panel .reach) rows ⊎ (panel .reach ≡ index) → index ≤ panel .reach → StepOK panel slots (storeWord m q index (wordOf q (put .value))) (ends (Counted index) (placed (positionOf m q index) index)) rows (putRow m k q (put .value) rows) (Putting put)
-  unfolding storeWord slotsAfter ends hasEnded updated counted withCount countOf
+  unfolding storeWord slotsAfter ends isWriterEnd updated counted withCount countOf
   stores index inside below empty top covered =
       subst (λ t. StepOK panel slots (storeWord m q index (wordOf q (put .value))) (ends (Counted index) (placed (positionOf m q index) index)) rows t (Putting put)) (sym (told-chosen index inside below empty))
       (ends-fed refl refl refl refl (steady-added (row q (put .value) (positionOf m q index)) rows (below .none)) (no-command refl refl)
@@ -175,7 +175,7 @@ module _ (panel : Record) (slots : List ℕ) (rows : Rows) (put : Put) (agrees :
 
   -- the row's word is stored anew
   overwrites : (place : Place) → Standing m k q rows place → Tight m k (panel .reach) rows → StepOK panel slots (storeWord m q (place .index) (wordOf q (put .value))) (ends Nothing (placed (positionOf m q (place .index)) (place .index))) rows (putRow m k q (put .value) rows) (Putting put)
-  unfolding storeWord slotsAfter ends hasEnded updated putRow putEntry
+  unfolding storeWord slotsAfter ends isWriterEnd updated putRow putEntry
   overwrites place stands tight =
       let told : putRow m k q (put .value) rows ≡ tells (withValue q (put .value) rows) (placed (positionOf m q (place .index)) (place .index)) = rw (stands .found) (ap (λ (i : ℕ). tells (withValue q (put .value) rows) (placed (positionOf m q (place .index)) i)) (index-is m k q (positionOf m q (place .index)) (place .index) (stands .lowest))) in
       subst (λ t. StepOK panel slots (storeWord m q (place .index) (wordOf q (put .value))) (ends Nothing (placed (positionOf m q (place .index)) (place .index))) rows t (Putting put)) (sym told)

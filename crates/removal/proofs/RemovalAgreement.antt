@@ -22,7 +22,7 @@ use Rattle.record.specs.declared.RemovalStage.the-variants.{Searching, Found as
 use Rattle.record.specs.declared.WriterWork.the-variants.{Removing}
 use Rattle.record.specs.Parts.{numbered, withNumbered, countOf, withCount, withReach}
 use Rattle.work_ranges.specs.WorkRanges.{validPoint, removalStageInRange, removalInRange}
-use Rattle.answers.specs.Answers.{removed, endedWith, hasEnded}
+use Rattle.answers.specs.Answers.{removed, endedWith}
 use Rattle.plain_list.specs.PlainList.{Rows, absent, entryOf, without, indexOf, largestIndex, Told, tells, removeEntry, removeRow}
 use Rattle.plain_list.proofs.RowLaws.{left, steady-same, steady-without}
 use Rattle.plain_list.proofs.IndexLaws.{index-is, countIndex, Indexed, found-counted, counted-found}
@@ -41,7 +41,7 @@ use Rattle.moves.specs.Counts.{uncounted, largestCounted}
 use Rattle.moves.specs.Memory.{storeWord, accessRead, slotsAfter, storesSlot}
 use Rattle.moves.specs.Moves.{isIdle, ends, updated}
 use Rattle.moves.proofs.CountLaws.{largest-high, largest-covers, largest-counted}
-use Rattle.moves.proofs.StepAgreement.{Standing, standing, RemovalOK, WorkOK, begun, fedAt, no-command, After, StepOK, goes-on, ends-fed, empties, lowers}
+use Rattle.moves.proofs.StepAgreement.{Standing, standing, RemovalOK, WorkOK, begun, fedAt, isWriterEnd, no-command, After, StepOK, goes-on, ends-fed, empties, lowers}
 use Rattle.removal.specs.Removal.{removalStageAccess, removalAccess, removalAt, removalAnswered, removalSearched, isLast, removalEmpties, removalLowers, removalStageAdvance, removalAdvance}
 
 module _ (panel : Record) (slots : List ℕ) (rows : Rows) (removal : Removal) (agrees : Agrees (panel .m) (panel .k) (panel .reach) (panel .counts) slots rows) (valid : validPoint (removal .point) ≡ true) where
@@ -60,7 +60,7 @@ module _ (panel : Record) (slots : List ℕ) (rows : Rows) (removal : Removal) (
   on-stage read stage before after h = goes-on refl before after refl refl refl refl (record { agrees = agrees; work = h })
 
   searched : (read : ReadAccess) (after : Searched) → fedAt (removal .stage) ≡ 0 → Tight m k (panel .reach) rows → Knows (entryOf q rows ≡ absent) m k q rows after → StepOK panel slots (Read read) (removalSearched removal after) rows (removeRow m k q rows) (Removing removal)
-  unfolding removalSearched removalAnswered removeRow removeEntry ends hasEnded slotsAfter updated
+  unfolding removalSearched removalAnswered removeRow removeEntry ends isWriterEnd slotsAfter updated
   searched read (Going search) unfed tight h = on-stage read (Searching search) unfed refl (h, tight)
   searched read (Answered (SearchAnswer·Found place)) unfed tight h = on-stage read (RemovalStage·Found place) unfed refl (standing m k q rows place h, tight)
   searched read (Answered Unknown) unfed tight h =
@@ -121,7 +121,7 @@ module _ (panel : Record) (slots : List ℕ) (rows : Rows) (removal : Removal) (
     last-step = empties refl unfed refl refl refl refl refl (steady-without q rows) refl (record { agrees = emptied; work = tt })
 
     only-step : (numbered counts-after i 0 ≢ 0) ⊎ (i ≢ panel .reach) → StepOK panel slots (storeWord m q i 0) (ends (Uncounted i) (removed (panel .reach))) rows (tells (without q rows) (removed (largestIndex m k (without q rows)))) (Removing removal)
-    unfolding storeWord slotsAfter ends hasEnded updated uncounted withCount countOf
+    unfolding storeWord slotsAfter ends isWriterEnd updated uncounted withCount countOf
     only-step h =
         let after = still-tight h tight in
         ends-fed unfed refl refl (ap removed (sym (top-is m k (panel .reach) counts-after (set slots slot 0) (without q rows) emptied after))) (steady-without q rows) (no-command refl refl)

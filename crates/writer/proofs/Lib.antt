@@ -1,2 +1,3 @@
 pub mod WriterLaws
 pub mod WriterAgreement
+pub mod CallCases

@@ -1,0 +1,147 @@
+-- What is true of a world before the first call and after each, and that it follows what the claim says of a world. The invariant speaks of the record and the
+-- definitions that the contracts cite: the table agrees with the plain list, the writer's work and what is noted of it fit together, and so do each reader's; the
+-- stations fit the commands noted.
+-- Assumes nothing.
+use Prim.Native.Nat.{ℕ, zero, suc, _+_, _≤_}
+use mathlib.Core.Bool.{true, false, false≢true}
+use mathlib.Core.Path.{_≡_, refl, sym, ap, subst, _∙_}
+use mathlib.Core.Logic.{_≢_, inl}
+use mathlib.Core.List.{List, []}
+use native.Mathlib.Omega.{arith}
+use borrow.Author.Tests.{eq-eqb}
+use lib.ListN.{length, getD, replicate, length-replicate, getD-replicate}
+use Rattle.record.specs.declared.Record.{Record}
+use Rattle.record.specs.declared.Reader.{Reader}
+use Rattle.record.specs.declared.Station.{Station}
+use Rattle.record.specs.declared.ReaderWork.{ReaderWork}
+use Rattle.record.specs.declared.ReaderWork.the-variants.{Idle as ReaderWork·Idle}
+use Rattle.record.specs.declared.WriterWork.{WriterWork}
+use Rattle.record.specs.Parts.{idleReader, unheardStation, freshRecord, workOf, numbered}
+use Rattle.record_ranges.specs.Ranges.{sizesInRange, inRange}
+use Rattle.record_ranges.proofs.Laws.{fresh-in-range}
+use Rattle.refusal.specs.Judging.{both, within}
+use Rattle.refusal.proofs.Laws.{both-true, is-within}
+use Rattle.answers.specs.Answers.{removed}
+use Rattle.slot_words.specs.Taken.{takenSlots}
+use Rattle.plain_list.specs.PlainList.{Rows, entryOf, largestIndex}
+use Rattle.plain_list.proofs.RowLaws.{present≢absent}
+use Rattle.plain_list.proofs.IndexLaws.{countIndex}
+use Rattle.plain_list.proofs.Agreement.{Agrees, shows}
+use Rattle.moves.specs.Moves.{isIdle}
+use Rattle.moves.proofs.MoveLaws.{writerLeft}
+use Rattle.moves.proofs.StepAgreement.{WorkOK, fedBy}
+use Rattle.writer.proofs.WriterAgreement.{operationOf}
+use Rattle.history.specs.World.{WriterNotes, World, freshWorld, begunReader}
+use Rattle.history.specs.Claim.{times, sents, stepBound, Stands}
+use Rattle.history.proofs.Readers.{ReaderOK}
+use Rattle.history.proofs.Commands.{commandOf, CommandsOK}
+
+-- what is noted of the writer's work underway
+pub record WriterOK (m k reach : ℕ) (rows : Rows) (notes : WriterNotes) (work : WriterWork) : Type 0 where
+  pub asked : notes .asked ≡ operationOf work
+  pub command : notes .command ≡ commandOf work
+  pub feeds : notes .feeds ≡ fedBy work
+  pub told : fedBy work ≡ 1 → notes .told ≡ removed (largestIndex m k rows)
+  pub left : notes .steps + writerLeft k reach work ≤ stepBound k (notes .asked)
+
+pub record Inv (m k : ℕ) (world : World) : Type 0 where
+  pub m-is : world .panel .m ≡ m
+  pub k-is : world .panel .k ≡ k
+  pub fits : inRange (length (world .slots)) (world .panel) ≡ true
+  pub all-readers : length (world .panel .readers) ≡ 16
+  pub agrees : Agrees m k (world .panel .reach) (world .panel .counts) (world .slots) (world .rows)
+  pub work : WorkOK m k (world .panel .reach) (world .slots) (world .rows) (world .panel .writer)
+  pub writer : isIdle (world .panel .writer) ≡ false → WriterOK m k (world .panel .reach) (world .rows) (world .writer) (world .panel .writer)
+  pub readers : (n : ℕ) → ReaderOK m k (world .rows) (world .readers n) (workOf (world .panel) n)
+  pub commands : CommandsOK (world .panel .stations) (commandOf (world .panel .writer)) (world .acts) (world .ended)
+
+-- what the claim says of a world
+pub stands : (m k : ℕ) (world : World) → Inv m k world → Stands m k world
+stands m k world inv =
+    record {
+      m-stays = inv .m-is;
+      k-stays = inv .k-is;
+      slots-show = shows m k (world .panel .reach) (world .panel .counts) (world .slots) (world .rows) (inv .agrees);
+      acts-once = inv .commands .acts-once;
+      ends-once = inv .commands .ends-once;
+    }
+
+-- an element of a list of equal elements, or what stands for one past its end
+replicated : {A : Type 0} (n i : ℕ) (x : A) → getD (replicate n x) i x ≡ x
+replicated zero i x = refl
+replicated (suc n) zero x = refl
+replicated (suc n) (suc i) x = replicated n i x
+
+all-unheard : (station : ℕ) → numbered (replicate 32 unheardStation) station unheardStation ≡ unheardStation
+unfolding numbered
+all-unheard zero = refl
+all-unheard (suc i) = replicated 32 i unheardStation
+
+none-counted : (i : ℕ) → numbered {A = ℕ} (replicate 64 0) i 0 ≡ 0
+unfolding numbered
+none-counted zero = refl
+none-counted (suc i) = replicated 64 i 0
+
+none-taken : (n : ℕ) → takenSlots (replicate n 0) ≡ 0
+unfolding takenSlots
+none-taken zero = refl
+none-taken (suc n) = none-taken n
+
+-- a fresh world
+module _ (m k : ℕ) (m-low : 1 ≤ m) (m-high : m ≤ 4096) (k-low : 1 ≤ k) (k-high : k ≤ 64) where
+  abbrev empty : List ℕ
+  empty = replicate m 0
+
+  fresh-sizes : sizesInRange m k (length empty) ≡ true
+  unfolding sizesInRange
+  fresh-sizes =
+      both-true _ _ (is-within 1 m 4096 m-low m-high) (both-true _ _ (is-within 1 k 64 k-low k-high) (eq-eqb (length empty) m (length-replicate m 0)))
+
+  fresh-agrees : Agrees m k 0 (replicate 64 0) (replicate m 0) []
+  unfolding entryOf countIndex
+  fresh-agrees =
+      record {
+        some-slot = m-low;
+        some-index = k-low;
+        few-indices = k-high;
+        whole = length-replicate m 0;
+        all-counts = refl;
+        reach-high = omega arith;
+        held = λ q value place e. present≢absent (sym e);
+        free = λ place inside. inl (getD-replicate m place 0 0 inside);
+        counted = λ i low high. none-counted i;
+        distinct = tt;
+        room = sym (none-taken m);
+      }
+
+  fresh-commands : CommandsOK (replicate 32 unheardStation) [] [] []
+  unfolding sents times
+  fresh-commands =
+      record {
+        all-stations = refl;
+        stored = λ station some. absurd (some (ap (λ (s : Station). s .number) (all-unheard station)));
+        acts-low = tt;
+        ended-low = tt;
+        acts-once = λ station number. omega arith;
+        ends-once = λ station number. omega arith;
+        underway = tt;
+      }
+
+  all-idle : (n : ℕ) → workOf (freshRecord m k) n ≡ ReaderWork·Idle
+  unfolding workOf freshRecord
+  all-idle n = ap (λ (r : Reader). r .work) (replicated 16 n idleReader)
+
+  pub fresh-inv : Inv m k (freshWorld m k)
+  unfolding freshWorld freshRecord isIdle commandOf
+  fresh-inv =
+      record {
+        m-is = refl;
+        k-is = refl;
+        fits = fresh-in-range m k (length empty) fresh-sizes;
+        all-readers = refl;
+        agrees = fresh-agrees;
+        work = inl refl;
+        writer = λ busy. absurd (false≢true (sym busy));
+        readers = λ n. subst (λ (w : ReaderWork). ReaderOK m k [] (begunReader 0) w) (sym (all-idle n)) tt;
+        commands = fresh-commands;
+      }

@@ -1,0 +1,52 @@
+-- Demand 3, shown for every list of calls: a fresh world has the invariant, every call keeps it and is answered right, so the claim follows by going along the list.
+-- Assumes nothing.
+use Prim.Native.Nat.{ℕ, _≤_}
+use mathlib.Core.Path.{_≡_, refl, sym, subst}
+use mathlib.Core.List.{List, [], _∷_}
+use Rattle.history.specs.declared.Call.{Call}
+use Rattle.history.specs.declared.Call.the-variants.{StartLookup, StartWalk, StepReader, StartPut, StartChange, StartRemoval, StartCommand, StepWriter}
+use Rattle.history.specs.Calls.{applied}
+use Rattle.history.specs.World.{Request, roleOf, World, noted, outcomeOf, next, freshWorld}
+use Rattle.history.specs.Claim.{Right, Holds, ArgumentsFit, AllFit, Demand3}
+use Rattle.history.proofs.Invariant.{Inv, stands, fresh-inv}
+use Rattle.history.proofs.ReaderCalls.{Kept, lookup-kept, walk-kept, step-kept as reader-step-kept}
+use Rattle.history.proofs.WriterStarts.{put-kept, change-kept, removal-kept, command-kept}
+use Rattle.history.proofs.WriterSteps.{step-kept as writer-step-kept}
+
+-- each call, by its definition
+call-kept : (world : World) → Inv (world .panel .m) (world .panel .k) world → (request : Request) (call : Call) → ArgumentsFit call → Kept world (roleOf request call) (applied (world .panel) (world .slots) call (request .frame))
+unfolding roleOf applied
+call-kept world inv request (StartLookup reader point) fit = lookup-kept world inv reader point
+call-kept world inv request (StartWalk reader) fit = walk-kept world inv reader
+call-kept world inv request (StepReader reader) fit = reader-step-kept world inv reader
+call-kept world inv request (StartPut point value) fit = put-kept world inv point value (fit .1)
+call-kept world inv request (StartChange point keep flip) fit = change-kept world inv point keep flip (fit .2)
+call-kept world inv request (StartRemoval point) fit = removal-kept world inv point
+call-kept world inv request StartCommand fit = command-kept world inv (request .frame)
+call-kept world inv request StepWriter fit = writer-step-kept world inv
+
+-- what a call leaves, for the m and k of the claim
+record Next (m k : ℕ) (world : World) (request : Request) : Type 0 where
+  inv : Inv m k (next world request)
+  right : Right m k world (next world request) (roleOf request (request .call)) (outcomeOf world request .answer)
+
+next-kept : (m k : ℕ) (world : World) (request : Request) → Inv m k world → ArgumentsFit (request .call) → Next m k world request
+unfolding next outcomeOf
+next-kept m k world request inv fit =
+    subst (λ (x : ℕ). Next x k world request) (inv .m-is) (subst (λ (x : ℕ). Next (world .panel .m) x world request) (inv .k-is) here)
+  where
+    own : Inv (world .panel .m) (world .panel .k) world
+    own = subst (λ (x : ℕ). Inv x (world .panel .k) world) (sym (inv .m-is)) (subst (λ (x : ℕ). Inv m x world) (sym (inv .k-is)) inv)
+
+    here : Next (world .panel .m) (world .panel .k) world request
+    here = let kept = call-kept world own request (request .call) fit in record { inv = kept .inv; right = kept .right }
+
+holds : (m k : ℕ) (world : World) (requests : List Request) → Inv m k world → AllFit requests → Holds m k world requests
+holds m k world [] inv fit = stands m k world inv
+holds m k world (request ∷ rest) inv fit =
+    let after = next-kept m k world request inv (fit .0 .0) in
+    (stands m k world inv, after .right, holds m k (next world request) rest (after .inv) (fit .1))
+
+-- "Demand 3 is a single claim, for every m and k in range, about every whole list of these calls with any arguments"
+pub demand-3 : Demand3
+demand-3 m k m-low m-high k-low k-high requests fit = holds m k (freshWorld m k) requests (fresh-inv m k m-low m-high k-low k-high) fit

@@ -5,7 +5,6 @@ mod expected_commands;
 mod expected_disabled;
 mod expected_frames;
 mod expected_fresh;
-mod expected_history;
 mod expected_operations;
 mod expected_ranges;
 mod expected_readers;
@@ -62,5 +61,4 @@ fn main() {
     expected_writing::run();
     expected_writer_refusals::run();
     expected_unreached::run();
-    expected_history::run();
 }

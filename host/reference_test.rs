@@ -1,14 +1,18 @@
-//! Tests of the reference itself: the writer's steps one by one, whole operations against the
-//! direct table and the plain list, and the steps of writer and readers in any order against the
-//! plain list. A failed test ends the program.
+//! Tests of the reference itself: the writer's steps and the command entry one by one, whole
+//! operations against the direct table and the plain list, and the calls of writer, readers and
+//! stations in any order against the plain list. A failed test ends the program.
 
 mod bench_commands;
 mod bench_histories;
 mod direct_table;
 mod plain_list;
+mod reference_command;
+mod reference_frame;
 mod reference_operations;
 mod reference_record;
 mod reference_writer;
+mod test_commands;
+mod test_entry;
 mod test_histories;
 mod test_orders;
 mod test_steps;
@@ -43,6 +47,7 @@ fn answer_of(step: Result<WriterStep, Refusal>) -> Option<Answer> {
 
 fn main() {
     test_steps::run();
+    test_entry::run();
     let commands = test_histories::run();
     let calls = test_orders::run();
     println!(

@@ -1,13 +1,14 @@
 //! Steps of the writer and of readers in any order, against the plain list: document 01's claim
-//! about every list of calls, as far as lookups and the writer go, and the bounds on steps.
+//! about every list of calls, as far as lookups, commands and the writer go, and the bounds on
+//! steps.
 
 use crate::plain_list::PlainList;
 use crate::random::Random;
-use crate::reference_record::{
-    Alteration, ChangeStage, PutStage, Reader, Record, RemovalStage, Search, Station, Writer,
-};
+use crate::reference_command;
+use crate::reference_record::{ChangeStage, PutStage, Reader, Record, RemovalStage, Writer};
 use crate::reference_table::{fresh, start_lookup, step_reader, Refusal, Step};
 use crate::reference_writer::{masks, start_change, start_put, start_removal, step_writer};
+use crate::test_commands::{Notes, Sent};
 use crate::{answer_of, Answer};
 
 const PANELS: u32 = 1500;
@@ -34,6 +35,7 @@ struct World {
     writer_steps: u32,
     /// What the plain list answered when it was fed the writer's operation.
     fed: Option<Answer>,
+    commands: Notes,
 }
 
 /// The number of calls made.
@@ -60,6 +62,7 @@ impl World {
             lookups: vec![Lookup::default(); READERS as usize],
             writer_steps: 0,
             fed: None,
+            commands: Notes::default(),
         }
     }
 
@@ -70,6 +73,7 @@ impl World {
             0 => self.start_lookup(reader, random.within(0, LAST_POINT)),
             1..=4 => self.step_reader(reader),
             5 => self.start_writer(random),
+            6 => self.start_command(random),
             _ => self.step_writer(),
         }
     }
@@ -113,12 +117,19 @@ impl World {
         let value = random.within(0, u32::MAX);
         let (record, slots) = (&mut self.record, &self.slots);
         // A refused start has no answer to be checked.
-        let _ = match random.within(0, 4) {
+        let _ = match random.within(0, 3) {
             0 | 1 => start_put(record, slots, point, value),
             2 => start_change(record, slots, point, value, value.rotate_left(9)),
-            3 => start_removal(record, slots, point),
-            _ => start_command(record, point.max(1), random),
+            _ => start_removal(record, slots, point),
         };
+    }
+
+    fn start_command(&mut self, random: &mut Random) {
+        let work = self.record.writer;
+        let sent = Sent::draw(&self.record, LAST_POINT, random);
+        let (record, slots) = (&mut self.record, &self.slots);
+        let answer = reference_command::start_command(record, slots, &sent.frame());
+        self.commands.answered(sent, answer, work);
     }
 
     fn step_writer(&mut self) {
@@ -133,31 +144,16 @@ impl World {
             assert_eq!(self.fed, None);
             self.fed = Some(feed(&mut self.list, before.writer));
         }
+        if stores_slot(&before) {
+            self.commands.slot_stored();
+        }
         if let Some(answer) = answer {
             assert_eq!(Some(answer), self.fed.take());
             assert!(self.writer_steps <= bound(&before));
             self.writer_steps = 0;
-            check_command(before.writer, answer, &self.record);
+            self.commands.operation_ended(answer, &self.record);
         }
     }
-}
-
-/// The station's next command, put into the record without a frame.
-fn start_command(record: &mut Record, point: u32, random: &mut Random) -> Result<(), Refusal> {
-    if record.writer != Writer::Idle {
-        return Err(Refusal::Engaged);
-    }
-    let station = random.within(1, 32);
-    record.writer = Writer::Changing {
-        point,
-        alteration: Alteration::Commanded {
-            station,
-            number: record.stations[station as usize - 1].number + 1,
-            action: random.within(0, 2),
-        },
-        stage: ChangeStage::Searching(Search::Unread),
-    };
-    Ok(())
 }
 
 /// Whether the writer's next step stores a slot.
@@ -199,28 +195,5 @@ fn feed(list: &mut PlainList, work: Writer) -> Answer {
             let reach = list.remove(point);
             reach.map(|reach| (reach, 0)).ok_or(7)
         }
-    }
-}
-
-/// A command that has ended is its station's last, with its answer.
-fn check_command(work: Writer, answer: Answer, after: &Record) {
-    if let Writer::Changing {
-        point,
-        alteration:
-            Alteration::Commanded {
-                station,
-                number,
-                action,
-            },
-        ..
-    } = work
-    {
-        let expected = Station {
-            number,
-            point,
-            action,
-            answer: answer.ok().map(|(value, _)| value),
-        };
-        assert_eq!(after.stations[station as usize - 1], expected);
     }
 }

@@ -24,11 +24,13 @@ use Rattle.answers.specs.declared.ReaderAnswer.{ReaderAnswer}
 use Rattle.answers.specs.declared.ReaderAnswer.the-variants.{Underway as ReaderAnswer·Underway, Found, Unknown as ReaderAnswer·Unknown, Word, LastWord, Refused as ReaderAnswer·Refused}
 use Rattle.answers.specs.declared.WriterAnswer.{WriterAnswer}
 use Rattle.answers.specs.declared.WriterAnswer.the-variants.{Underway as WriterAnswer·Underway, Placed, Changed, Removed, NoPerch, Unknown as WriterAnswer·Unknown, Refused as WriterAnswer·Refused}
+use Rattle.answers.specs.declared.CallAnswer.{CallAnswer}
+use Rattle.answers.specs.declared.CallAnswer.the-variants.{Started as CallAnswer·Started, GivenAgain as CallAnswer·GivenAgain, Underway as CallAnswer·Underway, LookedUp, Placed as CallAnswer·Placed, Changed as CallAnswer·Changed, Removed as CallAnswer·Removed, NoPerch as CallAnswer·NoPerch, Unknown as CallAnswer·Unknown, Walked, WalkedLast, Refused as CallAnswer·Refused}
 use Rattle.answers.specs.declared.TotalAnswer.{TotalAnswer}
 use Rattle.answers.specs.declared.TotalAnswer.the-variants.{Total, Refused as TotalAnswer·Refused}
 use Rattle.answers.specs.declared.DisplayAnswer.{DisplayAnswer}
 use Rattle.answers.specs.declared.DisplayAnswer.the-variants.{Shown, Refused as DisplayAnswer·Refused}
-use Rattle.answers.specs.Answers.{Answer, started, underway, lookedUp, placed, changed, removed, endedWith, walked, walkedLast, givenAgain, gives, refused, Outcome, outcome, unlessRefused, storedAnswer, paperFresh, paperStart, paperEntry, paperReader, paperWriter, paperTotal, paperDisplay}
+use Rattle.answers.specs.Answers.{Answer, started, underway, lookedUp, placed, changed, removed, endedWith, walked, walkedLast, givenAgain, gives, refused, Outcome, outcome, unlessRefused, storedAnswer, paperFresh, paperStart, paperEntry, paperReader, paperWriter, paperCall, paperTotal, paperDisplay}
 
 module _ (panel : Record) (slots : List ℕ) (done : Outcome) where
   by-number : (n : ℕ) → 1 ≤ n → unlessRefused n panel slots done ≡ outcome panel slots (refused n)
@@ -114,6 +116,9 @@ asReader a = getD (ReaderAnswer·Underway ∷ ReaderAnswer·Underway ∷ Found (
 asWriter : Answer → WriterAnswer
 asWriter a = getD (WriterAnswer·Underway ∷ WriterAnswer·Underway ∷ WriterAnswer·Underway ∷ Placed (record { slot = carried a; index = carriedSecond a }) ∷ Changed (carried a) ∷ Removed (carried a) ∷ cond (eqb (carried a) 6) NoPerch WriterAnswer·Unknown ∷ WriterAnswer·Underway ∷ WriterAnswer·Underway ∷ WriterAnswer·Underway ∷ WriterAnswer·Refused (rowOf (carried a)) ∷ []) (tag a) WriterAnswer·Underway
 
+asCall : Answer → CallAnswer
+asCall a = getD (CallAnswer·Started ∷ CallAnswer·Underway ∷ LookedUp (carried a) ∷ CallAnswer·Placed (record { slot = carried a; index = carriedSecond a }) ∷ CallAnswer·Changed (carried a) ∷ CallAnswer·Removed (carried a) ∷ cond (eqb (carried a) 6) CallAnswer·NoPerch CallAnswer·Unknown ∷ Walked (carried a) ∷ WalkedLast (carried a) ∷ CallAnswer·Started ∷ CallAnswer·Refused (rowOf (carried a)) ∷ CallAnswer·GivenAgain (asStored (carriedSecond a) (carried a)) ∷ []) (tag a) CallAnswer·Started
+
 asTotal : Answer → TotalAnswer
 asTotal a = getD (Total (carried a) ∷ Total (carried a) ∷ Total (carried a) ∷ Total (carried a) ∷ Total (carried a) ∷ Total (carried a) ∷ Total (carried a) ∷ Total (carried a) ∷ Total (carried a) ∷ Total (carried a) ∷ TotalAnswer·Refused (rowOf (carried a)) ∷ []) (tag a) (Total (carried a))
 
@@ -170,6 +175,25 @@ writer-tells = LeftInverse·injective asWriter paperWriter back
     back NoPerch = refl
     back WriterAnswer·Unknown = refl
     back (WriterAnswer·Refused r) = ap WriterAnswer·Refused (row-of-number r)
+
+pub call-tells : (a b : CallAnswer) → paperCall a ≡ paperCall b → a ≡ b
+unfolding asCall asStored storedAnswer tag carried carriedSecond
+call-tells = LeftInverse·injective asCall paperCall back
+  where
+    back : (a : CallAnswer) → asCall (paperCall a) ≡ a
+    back CallAnswer·Started = refl
+    back (CallAnswer·GivenAgain (Value value)) = refl
+    back (CallAnswer·GivenAgain CommandAnswer·Unknown) = refl
+    back CallAnswer·Underway = refl
+    back (LookedUp value) = refl
+    back (CallAnswer·Placed spot) = refl
+    back (CallAnswer·Changed value) = refl
+    back (CallAnswer·Removed reach) = refl
+    back CallAnswer·NoPerch = refl
+    back CallAnswer·Unknown = refl
+    back (Walked word) = refl
+    back (WalkedLast word) = refl
+    back (CallAnswer·Refused r) = ap CallAnswer·Refused (row-of-number r)
 
 pub total-tells : (a b : TotalAnswer) → paperTotal a ≡ paperTotal b → a ≡ b
 unfolding asTotal tag carried

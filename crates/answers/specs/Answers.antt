@@ -16,6 +16,8 @@ use Rattle.answers.specs.declared.ReaderAnswer.{ReaderAnswer}
 use Rattle.answers.specs.declared.ReaderAnswer.the-variants.{Underway as ReaderAnswer·Underway, Found, Unknown as ReaderAnswer·Unknown, Word, LastWord, Refused as ReaderAnswer·Refused}
 use Rattle.answers.specs.declared.WriterAnswer.{WriterAnswer}
 use Rattle.answers.specs.declared.WriterAnswer.the-variants.{Underway as WriterAnswer·Underway, Placed, Changed, Removed, NoPerch, Unknown as WriterAnswer·Unknown, Refused as WriterAnswer·Refused}
+use Rattle.answers.specs.declared.CallAnswer.{CallAnswer}
+use Rattle.answers.specs.declared.CallAnswer.the-variants.{Started as CallAnswer·Started, GivenAgain as CallAnswer·GivenAgain, Underway as CallAnswer·Underway, LookedUp, Placed as CallAnswer·Placed, Changed as CallAnswer·Changed, Removed as CallAnswer·Removed, NoPerch as CallAnswer·NoPerch, Unknown as CallAnswer·Unknown, Walked, WalkedLast, Refused as CallAnswer·Refused}
 use Rattle.answers.specs.declared.TotalAnswer.{TotalAnswer}
 use Rattle.answers.specs.declared.TotalAnswer.the-variants.{Total, Refused as TotalAnswer·Refused}
 use Rattle.answers.specs.declared.DisplayAnswer.{DisplayAnswer}
@@ -87,6 +89,21 @@ paperWriter (Removed reach) = removed reach
 paperWriter NoPerch = endedWith 6
 paperWriter WriterAnswer·Unknown = endedWith 7
 paperWriter (WriterAnswer·Refused r) = refused (numberOf r)
+
+-- any call
+abbrev pub paperCall : CallAnswer → Answer
+paperCall CallAnswer·Started = started
+paperCall (CallAnswer·GivenAgain answer) = givenAgain (storedAnswer answer)
+paperCall CallAnswer·Underway = underway
+paperCall (LookedUp value) = lookedUp value
+paperCall (CallAnswer·Placed spot) = placed (spot .slot) (spot .index)
+paperCall (CallAnswer·Changed value) = changed value
+paperCall (CallAnswer·Removed reach) = removed reach
+paperCall CallAnswer·NoPerch = endedWith 6
+paperCall CallAnswer·Unknown = endedWith 7
+paperCall (Walked word) = walked word
+paperCall (WalkedLast word) = walkedLast word
+paperCall (CallAnswer·Refused r) = refused (numberOf r)
 
 -- the disabled total
 abbrev pub paperTotal : TotalAnswer → Answer

@@ -58,6 +58,24 @@ pub struct Spot {
     pub index: u32,
 }
 
+// Of any call of a list: each answer of the kinds above once.
+pub enum CallAnswer {
+    Started,
+    GivenAgain(CommandAnswer),
+    Underway,
+    LookedUp(u32),
+    Placed(Spot),
+    Changed(u32),
+    Removed(u32),
+    // the operation has ended with refusal 6
+    NoPerch,
+    // the operation has ended with refusal 7
+    Unknown,
+    Walked(u64),
+    WalkedLast(u64),
+    Refused(Refusal),
+}
+
 // Of `disabled_total`.
 pub enum TotalAnswer {
     Total(u32),

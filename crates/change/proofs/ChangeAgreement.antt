@@ -41,7 +41,7 @@ use Rattle.moves.specs.declared.memory.WriterAccess.{WriterAccess}
 use Rattle.moves.specs.declared.memory.WriterAccess.the-variants.{Read}
 use Rattle.moves.specs.Memory.{storeWord, accessRead, slotsAfter, storesSlot}
 use Rattle.moves.specs.Moves.{isIdle, goesOn, ends, updated}
-use Rattle.moves.proofs.StepAgreement.{Standing, standing, ChangeOK, FlipFits, WorkOK, begun, After, isCommanded, isWriterEnd, no-command, command-ends, StepOK, goes-on, ends-fed}
+use Rattle.moves.proofs.StepAgreement.{Standing, standing, ChangeOK, FlipFits, WorkOK, begun, isCommanded, isWriterEnd, no-command, command-ends, StepOK, goes-on, ends-fed}
 use Rattle.change.specs.Change.{actionMasks, masksOf, newValue, changeStageAccess, changeAccess, alterationEnds, commandEnds, changeAt, changeAnswered, changeSearched, changeStores, changeStageAdvance, changeAdvance}
 
 -- what the plain list says to this change

@@ -148,8 +148,8 @@ pub fn generated(n: u32) -> u32
     value
 }
 
-// One turn of the recurrence.
-fn next(value: u32) -> u32
+// One turn of the recurrence: the generator's next value.
+pub fn next(value: u32) -> u32
     ensures { λ r. ⌜ r ≡ nextOf value ⌝ }
 {
     ((16807 * value as u64) % 2147483647) as u32

@@ -5,7 +5,7 @@ use Prim.Native.Nat.{ℕ, _+_, _≤_, _<_}
 use mathlib.Core.Bool.{Bool, true, false, cond}
 use mathlib.Core.Path.{_≡_, refl, sym, ap, subst, _∙_}
 use mathlib.Core.Logic.{_≢_}
-use mathlib.Core.List.{List, [], _∷_, _++_}
+use mathlib.Core.List.{List, [], _∷_}
 use native.Mathlib.Omega.{arith}
 use native.Mathlib.Decide.{ℕ-discrete}
 use borrow.Author.Tests.{eqb-true}
@@ -17,13 +17,12 @@ use Rattle.record.specs.declared.Command.{Command}
 use Rattle.record.specs.declared.CommandAnswer.{CommandAnswer}
 use Rattle.record.specs.declared.Alteration.{Alteration}
 use Rattle.record.specs.declared.Alteration.the-variants.{Given as Alteration·Given, Commanded}
-use Rattle.record.specs.declared.Change.{Change}
 use Rattle.record.specs.declared.WriterWork.{WriterWork}
 use Rattle.record.specs.declared.WriterWork.the-variants.{Idle, Putting, Changing, Removing}
 use Rattle.record.specs.Parts.{unheardStation, numbered, withNumbered}
 use Rattle.record.proofs.Numbered.{replaced-length, replaced-same, replaced-other}
 use Rattle.answers.specs.Answers.{Answer, storedAnswer}
-use Rattle.plain_list.specs.PlainList.{Each, Some, here, there}
+use Rattle.plain_list.specs.PlainList.{Each, here, there}
 use Rattle.moves.proofs.StepAgreement.{begun, fedBy, isCommanded, isCommand}
 use Rattle.command.specs.declared.Sent.{Sent}
 use Rattle.history.specs.World.{Given}
@@ -176,9 +175,10 @@ module _ (stations : List Station) (sent : Sent) (acts : List Sent) (ended : Lis
   unfolding Gave
   still-stored station (yes e) some =
       let last : lastOf after station ≡ new = ap (lastOf after) e ∙ new-last in
-      here
-      (subst (λ (s : Station). sent ≡ lastSent station s) (sym last) (ap (λ (x : ℕ). lastSent x new) (sym e)),
-      subst (λ (s : Station). answer ≡ storedAnswer (s .answer)) (sym last) (sym same))
+      here (
+        subst (λ (s : Station). sent ≡ lastSent station s) (sym last) (ap (λ (x : ℕ). lastSent x new) (sym e)),
+        subst (λ (s : Station). answer ≡ storedAnswer (s .answer)) (sym last) (sym same),
+      )
   still-stored station (no e) some =
       let last = replaced-other stations (sent .station) new unheardStation station e in
       subst (λ (s : Station). s .number ≢ 0 → Gave (record { sent = sent; answer = answer } ∷ ended) (storedAnswer (s .answer)) (lastSent station s)) (sym last) (λ n. there (ok .stored station n)) some

@@ -4,13 +4,12 @@
 -- Assumes nothing.
 use Prim.Native.Nat.{ℕ, zero, suc, _+_, _≤_}
 use mathlib.Core.Bool.{true, false, false≢true}
-use mathlib.Core.Path.{_≡_, refl, sym, ap, subst, _∙_}
+use mathlib.Core.Path.{_≡_, refl, sym, ap, subst}
 use mathlib.Core.Logic.{_≢_, inl}
 use mathlib.Core.List.{List, []}
 use native.Mathlib.Omega.{arith}
 use borrow.Author.Tests.{eq-eqb}
 use lib.ListN.{length, getD, replicate, length-replicate, getD-replicate}
-use Rattle.record.specs.declared.Record.{Record}
 use Rattle.record.specs.declared.Reader.{Reader}
 use Rattle.record.specs.declared.Station.{Station}
 use Rattle.record.specs.declared.ReaderWork.{ReaderWork}
@@ -19,7 +18,7 @@ use Rattle.record.specs.declared.WriterWork.{WriterWork}
 use Rattle.record.specs.Parts.{idleReader, unheardStation, freshRecord, workOf, numbered}
 use Rattle.record_ranges.specs.Ranges.{sizesInRange, inRange}
 use Rattle.record_ranges.proofs.Laws.{fresh-in-range}
-use Rattle.refusal.specs.Judging.{both, within}
+use Rattle.refusal.specs.Judging.{within}
 use Rattle.refusal.proofs.Laws.{both-true, is-within}
 use Rattle.answers.specs.Answers.{removed}
 use Rattle.slot_words.specs.Taken.{takenSlots}
@@ -32,7 +31,7 @@ use Rattle.moves.proofs.MoveLaws.{writerLeft}
 use Rattle.moves.proofs.StepAgreement.{WorkOK, fedBy}
 use Rattle.writer.proofs.WriterAgreement.{operationOf}
 use Rattle.history.specs.World.{WriterNotes, World, freshWorld, begunReader}
-use Rattle.history.specs.Claim.{times, sents, stepBound, Stands}
+use Rattle.history.specs.Claim.{times, sents, stepBound, WorldRight}
 use Rattle.history.proofs.Readers.{ReaderOK}
 use Rattle.history.proofs.Commands.{commandOf, CommandsOK}
 
@@ -56,8 +55,8 @@ pub record Inv (m k : ℕ) (world : World) : Type 0 where
   pub commands : CommandsOK (world .panel .stations) (commandOf (world .panel .writer)) (world .acts) (world .ended)
 
 -- what the claim says of a world
-pub stands : (m k : ℕ) (world : World) → Inv m k world → Stands m k world
-stands m k world inv =
+pub world-right : (m k : ℕ) (world : World) → Inv m k world → WorldRight m k world
+world-right m k world inv =
     record {
       m-stays = inv .m-is;
       k-stays = inv .k-is;

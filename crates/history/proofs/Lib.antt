@@ -1,4 +1,3 @@
-pub mod CallLaws
 pub mod Readers
 pub mod Commands
 pub mod Invariant
@@ -6,3 +5,4 @@ pub mod ReaderCalls
 pub mod WriterStarts
 pub mod WriterSteps
 pub mod Theorem
+pub mod MarkedValues

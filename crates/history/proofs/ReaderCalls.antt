@@ -1,17 +1,16 @@
 -- A refused call, and the calls of readers, keep the invariant and are answered right.
 -- Assumes nothing.
-use Prim.Native.Nat.{ℕ, _+_, _≤_, _<_}
+use Prim.Native.Nat.{ℕ, _≤_, _<_}
 use mathlib.Core.Bool.{Bool, true, false, cond, not}
-use mathlib.Core.Path.{_≡_, refl, sym, ap, subst, _∙_}
+use mathlib.Core.Path.{_≡_, refl, sym, subst, _∙_}
 use mathlib.Core.Logic.{_≢_}
-use mathlib.Core.List.{List, []}
+use mathlib.Core.List.{List}
 use native.Mathlib.Omega.{arith}
 use borrow.Author.Tests.{eqb-true, eqb-false, eq-eqb}
 use lib.Dec.{eqb}
 use lib.ListN.{length, length-set}
 use Rattle.refusal.specs.Judging.{both, either}
 use Rattle.record.specs.declared.Record.{Record}
-use Rattle.record.specs.declared.Reader.{Reader}
 use Rattle.record.specs.declared.Search.the-variants.{Unread}
 use Rattle.record.specs.declared.ReaderWork.{ReaderWork}
 use Rattle.record.specs.declared.ReaderWork.the-variants.{LookingUp, Walking}
@@ -19,7 +18,7 @@ use Rattle.record.specs.Parts.{workOf, withWork}
 use Rattle.record.proofs.WorkLaws.{work-replaced, others-stay}
 use Rattle.record_ranges.specs.Ranges.{inRange}
 use Rattle.record_ranges.proofs.Laws.{fields, work-in-range, with-work-in-range}
-use Rattle.answers.specs.Answers.{Answer, started, refused, givenAgain, hasEnded, isStarted, isRefused, Outcome, outcome}
+use Rattle.answers.specs.Answers.{Answer, refused, givenAgain, hasEnded, isStarted, isRefused, Outcome, outcome}
 use Rattle.plain_list.specs.PlainList.{Rows, Operation, Some}
 use Rattle.plain_list.proofs.RowLaws.{steady-same}
 use Rattle.search.specs.Access.{wordRead}
@@ -31,7 +30,7 @@ use Rattle.table.proofs.StartCases as start
 use Rattle.table.proofs.ReaderLaws.{advances}
 use Rattle.command.specs.declared.Sent.{Sent}
 use Rattle.history.specs.World.{Role, readerStart, readerStep, writerStart, writerStep, ReaderNotes, World, storesNow, endsNow, feedsNow, rowsNow, writerNow, begunReader, steppedReader, witnessed, readerNow, noted}
-use Rattle.history.specs.Claim.{Gave, StartRight, ReaderRight, Right}
+use Rattle.history.specs.Claim.{Gave, start-made, given-again, start-refused, ReaderRight, reader-refused, writer-refused, Right}
 use Rattle.history.proofs.Readers.{ReaderOK, reader-on, StepRight, reader-right}
 use Rattle.history.proofs.Invariant.{Inv}
 
@@ -97,15 +96,15 @@ module _ (world : World) (inv : Inv (world .panel .m) (world .panel .k) world) w
   -- a refused call
   pub refused-kept : (role : Role) (n : ℕ) → n ≢ 1 → Kept world role (outcome panel slots (refused n))
   unfolding noted rowsNow feedsNow storesNow endsNow writerNow readerNow isStarted isRefused hasEnded either both
-  refused-kept (readerStart reader point) n h = record { inv = waits; right = h }
-  refused-kept (readerStep reader) n h = record { inv = waits; right = h }
-  refused-kept (writerStart operation command) n h = record { inv = waits; right = h }
-  refused-kept writerStep n h = record { inv = waits; right = h }
+  refused-kept (readerStart reader point) n h = record { inv = waits; right = start-refused n h }
+  refused-kept (readerStep reader) n h = record { inv = waits; right = reader-refused n h }
+  refused-kept (writerStart operation command) n h = record { inv = waits; right = start-refused n h }
+  refused-kept writerStep n h = record { inv = waits; right = writer-refused n h }
 
   -- a stored answer given again
   pub again-kept : (operation : Operation) (command : List Sent) (answer : Answer) → Some (Gave (world .ended) answer) command → Kept world (writerStart operation command) (outcome panel slots (givenAgain answer))
   unfolding noted rowsNow feedsNow storesNow endsNow writerNow readerNow isStarted either both
-  again-kept operation command answer h = record { inv = waits; right = h }
+  again-kept operation command answer h = record { inv = waits; right = given-again answer h }
 
   -- a reader's work replaced in its place, with what is then noted of it
   replaced-inv : (reader : ℕ) (work : ReaderWork) (mine : ℕ → ReaderNotes) → reader ≤ 15 → inRange (length slots) (withWork panel reader work) ≡ true → ReaderOK m k (world .rows) (mine reader) work → Inv m k (record { panel = withWork panel reader work; slots = slots; rows = world .rows; writer = world .writer; readers = λ (n : ℕ). cond (eqb reader n) (mine n) (witnessed (world .readers n) (world .rows)); acts = world .acts; ended = world .ended })
@@ -127,7 +126,7 @@ module _ (world : World) (inv : Inv (world .panel .m) (world .panel .k) world) w
   unfolding noted rowsNow feedsNow storesNow endsNow writerNow readerNow isStarted either both
   start-kept reader point work after own (start.refuses n h) = refused-kept (readerStart reader point) n h
   start-kept reader point work after own (start.begins low fits) =
-      record { inv = replaced-inv reader work (λ (n : ℕ). begunReader point) low fits own; right = tt }
+      record { inv = replaced-inv reader work (λ (n : ℕ). begunReader point) low fits own; right = start-made }
 
   -- the start of a lookup
   pub lookup-kept : (reader point : ℕ) → Kept world (readerStart reader point) (startLookup panel slots reader point)

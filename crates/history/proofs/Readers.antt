@@ -6,7 +6,7 @@ use Prim.Native.Nat.{ℕ, _+_, _-_, _≤_, _<_}
 use mathlib.Core.Bool.{Bool, true, false, cond, false≢true}
 use mathlib.Core.Path.{_≡_, refl, sym, ap, subst, _∙_}
 use mathlib.Core.Logic.{_⊎_, inl, inr, _≢_}
-use mathlib.Core.List.{List, [], _∷_, _++_}
+use mathlib.Core.List.{List, [], _∷_}
 use native.Mathlib.Omega.{arith}
 use borrow.Author.Tests.{eqb-true, eqb-false, eq-eqb, ne-eqb, ltb-true, ltb-false}
 use lib.Dec.{eqb, ltb}
@@ -19,7 +19,7 @@ use Rattle.record.specs.declared.Search.the-variants.{Unread, Probing}
 use Rattle.record.specs.declared.ReaderWork.{ReaderWork}
 use Rattle.record.specs.declared.ReaderWork.the-variants.{Idle, LookingUp, Walking}
 use Rattle.work_ranges.specs.WorkRanges.{validPoint, searchInRange, lookupInRange, workInRange}
-use Rattle.answers.specs.Answers.{Answer, underway, lookedUp, endedWith, walked, walkedLast, isRefused}
+use Rattle.answers.specs.Answers.{underway, walked, walkedLast, isRefused}
 use Rattle.plain_list.specs.PlainList.{Rows, Entry, absent, present, entryOf, lookupEntry, lookupRow, Each, Some, here, there}
 use Rattle.plain_list.proofs.RowLaws.{Steady, steady-same}
 use Rattle.plain_list.proofs.Agreement.{valid-low, Agrees, place-low, shown-row, row-shown, word-row}
@@ -32,7 +32,7 @@ use Rattle.search.proofs.SearchLaws.{searchLeft, searchedLeft, OneStep, search-
 use Rattle.search.proofs.TrailLaws.{Trail, Knows, search-knows, trail-after}
 use Rattle.reader_step.specs.Reader.{isIdle, readerAccess, ReaderMove, lookupAnswer, lookupMove, lookupAdvance, walkAdvance, readerAdvance}
 use Rattle.history.specs.World.{ReaderNotes, wordGiven, steppedReader, witnessed}
-use Rattle.history.specs.Claim.{LookupRight, ReportTrue, reports, ReportedOnce, ReaderRight}
+use Rattle.history.specs.Claim.{ReportTrue, reports, ReportedOnce, ReaderRight, lookup-underway, lookup-found, lookup-unknown, walk-underway, walk-ended}
 
 -- the point was on no row at one of these moments
 abbrev pub Missed : ℕ → List Rows → Type 0
@@ -189,27 +189,29 @@ module _ (m k reach : ℕ) (counts slots : List ℕ) (rows : Rows) (agrees : Agr
                 first = first-made s;
                 left = omega (arith, ok .left, one .less);
               };
-          right = omega (arith, ok .left, one .less, some-left s);
+          right = lookup-underway (omega (arith, ok .left, one .less, some-left s));
           carried = refl;
         }
     moved-right (Answered (Found place)) known one =
         record {
           ok = tt;
           right =
-              record {
+              lookup-found (place .value)
+              (record {
                 one-moment = here (sym (ap (λ (q : ℕ). lookupEntry (entryOf q rows)) (sym (ok .asked)) ∙ ap lookupEntry (known .found)));
                 in-time = omega (arith, ok .left, one .less);
-              };
+              });
           carried = refl;
         }
     moved-right (Answered Unknown) known one =
         record {
           ok = tt;
           right =
-              record {
+              lookup-unknown
+              (record {
                 one-moment = some-map (λ (then : Rows) e. sym (ap (λ (q : ℕ). lookupEntry (entryOf q then)) (sym (ok .asked)) ∙ ap lookupEntry e)) moments known;
                 in-time = omega (arith, ok .left, one .less);
-              };
+              });
           carried = refl;
         }
 
@@ -320,12 +322,12 @@ module _ (m k reach : ℕ) (counts slots : List ℕ) (rows : Rows) (agrees : Agr
                     first = λ z. absurd (omega arith);
                     passed = λ begun q low. passed-now q low;
                   };
-              right = (record { true-now = report-at }, omega (arith, ok .steps, ltb-true (next + 1) m e));
+              right = walk-underway read report-at (omega (arith, ok .steps, ltb-true (next + 1) m e));
               carried = refl;
             }
         go false e =
             let past = ltb-false (next + 1) m e in
-            record { ok = tt; right = (record { true-now = report-at }, omega (arith, ok .steps), once (omega arith)); carried = refl }
+            record { ok = tt; right = walk-ended read report-at (omega (arith, ok .steps)) (once (omega arith)); carried = refl }
 
   -- a step of a reader at work
   pub reader-right : (work : ReaderWork) → workInRange m k work ≡ true → isIdle work ≡ false → ReaderOK m k rows notes work → StepRight m k rows notes (readerAdvance m reach work (wordRead slots (readerAccess m work)))

@@ -1,14 +1,14 @@
 -- Demand 3, shown for every list of calls: a fresh world has the invariant, every call keeps it and is answered right, so the claim follows by going along the list.
 -- Assumes nothing.
-use Prim.Native.Nat.{ℕ, _≤_}
-use mathlib.Core.Path.{_≡_, refl, sym, subst}
+use Prim.Native.Nat.{ℕ}
+use mathlib.Core.Path.{sym, subst}
 use mathlib.Core.List.{List, [], _∷_}
 use Rattle.history.specs.declared.Call.{Call}
 use Rattle.history.specs.declared.Call.the-variants.{StartLookup, StartWalk, StepReader, StartPut, StartChange, StartRemoval, StartCommand, StepWriter}
 use Rattle.history.specs.Calls.{applied}
-use Rattle.history.specs.World.{Request, roleOf, World, noted, outcomeOf, next, freshWorld}
+use Rattle.history.specs.World.{Request, roleOf, World, outcomeOf, next, freshWorld}
 use Rattle.history.specs.Claim.{Right, Holds, ArgumentsFit, AllFit, Demand3}
-use Rattle.history.proofs.Invariant.{Inv, stands, fresh-inv}
+use Rattle.history.proofs.Invariant.{Inv, world-right, fresh-inv}
 use Rattle.history.proofs.ReaderCalls.{Kept, lookup-kept, walk-kept, step-kept as reader-step-kept}
 use Rattle.history.proofs.WriterStarts.{put-kept, change-kept, removal-kept, command-kept}
 use Rattle.history.proofs.WriterSteps.{step-kept as writer-step-kept}
@@ -42,10 +42,10 @@ next-kept m k world request inv fit =
     here = let kept = call-kept world own request (request .call) fit in record { inv = kept .inv; right = kept .right }
 
 holds : (m k : ℕ) (world : World) (requests : List Request) → Inv m k world → AllFit requests → Holds m k world requests
-holds m k world [] inv fit = stands m k world inv
+holds m k world [] inv fit = world-right m k world inv
 holds m k world (request ∷ rest) inv fit =
     let after = next-kept m k world request inv (fit .0 .0) in
-    (stands m k world inv, after .right, holds m k (next world request) rest (after .inv) (fit .1))
+    (world-right m k world inv, after .right, holds m k (next world request) rest (after .inv) (fit .1))
 
 -- "Demand 3 is a single claim, for every m and k in range, about every whole list of these calls with any arguments"
 pub demand-3 : Demand3

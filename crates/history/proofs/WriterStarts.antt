@@ -1,8 +1,8 @@
 -- The writer's starts, a command's among them, keep the invariant and are answered right.
 -- Assumes nothing.
-use Prim.Native.Nat.{ℕ, _+_, _*_, _≤_, _<_}
+use Prim.Native.Nat.{ℕ, _≤_, _<_}
 use mathlib.Core.Bool.{true, false, false≢true}
-use mathlib.Core.Path.{_≡_, refl, sym, ap, subst, _∙_}
+use mathlib.Core.Path.{_≡_, refl, sym, subst}
 use mathlib.Core.List.{List, [], _∷_}
 use native.Mathlib.Omega.{arith}
 use lib.ListN.{length}
@@ -21,7 +21,7 @@ use Rattle.record.specs.Parts.{workOf, withWriter, stationOf}
 use Rattle.work_ranges.specs.WorkRanges.{validPoint, searchInRange, putStageInRange, putInRange, alterationInRange, changeStageInRange, changeInRange, removalStageInRange, removalInRange, writerInRange}
 use Rattle.record_ranges.specs.Ranges.{inRange}
 use Rattle.answers.specs.Answers.{started, storedAnswer, isStarted, Outcome, outcome}
-use Rattle.plain_list.specs.PlainList.{Rows, Operation, put, change, removal, Each, Some, here}
+use Rattle.plain_list.specs.PlainList.{Operation, put, change, removal, Each, here}
 use Rattle.plain_list.proofs.Agreement.{Tight}
 use Rattle.search.proofs.SearchLaws.{searchLeft}
 use Rattle.moves.specs.Moves.{isIdle}
@@ -30,13 +30,12 @@ use Rattle.moves.proofs.StepAgreement.{WorkOK, fedBy}
 use Rattle.change.specs.Change.{masksOf}
 use Rattle.writer.specs.Starts.{startPut, startChange, startRemoval}
 use Rattle.writer.proofs.WriterAgreement.{operationOf}
-use Rattle.writer.proofs.CallCases.{Began, start-refused, begins, began}
+use Rattle.writer.proofs.CallCases.{Began, refuses-start, begins, began}
 use Rattle.command.specs.declared.Sent.{Sent}
 use Rattle.command.specs.Command.{sentIn, commandedChange, startCommand}
 use Rattle.command.proofs.CommandLaws.{Entered, refuses, repeats, starts, entered, command-in-range}
-use Rattle.history.specs.World.{Role, writerStart, asChange, World, storesNow, endsNow, feedsNow, rowsNow, begunWriter, writerNow, witnessed, readerNow, noted}
-use Rattle.history.specs.Claim.{Gave, stepBound}
-use Rattle.history.proofs.Readers.{reader-on}
+use Rattle.history.specs.World.{writerStart, asChange, World, storesNow, endsNow, feedsNow, rowsNow, begunWriter, writerNow, readerNow, noted}
+use Rattle.history.specs.Claim.{Gave, start-made, stepBound}
 use Rattle.history.proofs.Commands.{commandOf, IsNext, lastSent, with-command}
 use Rattle.history.proofs.Invariant.{Inv}
 use Rattle.history.proofs.ReaderCalls.{Kept, still, refused-kept, again-kept}
@@ -94,11 +93,11 @@ module _ (world : World) (inv : Inv (world .panel .m) (world .panel .k) world) w
               readers = still world inv;
               commands = with-command (panel .stations) (commandOf (panel .writer)) (commandOf work) (world .acts) (world .ended) (inv .commands) (fresh .in-turn);
             };
-        right = tt;
+        right = start-made;
       }
 
   start-kept : (operation : Operation) (command : List Sent) (work : WriterWork) (after : Outcome) → Fresh operation command work → Began panel slots work after → Kept world (writerStart operation command) after
-  start-kept operation command work after fresh (start-refused n h) = refused-kept world inv (writerStart operation command) n h
+  start-kept operation command work after fresh (refuses-start n h) = refused-kept world inv (writerStart operation command) n h
   start-kept operation command work after fresh (begins idle fits) = begun-kept operation command work fresh idle fits
 
   pub put-kept : (point value : ℕ) → value < 4294967296 → Kept world (writerStart (put point value) []) (startPut panel slots point value)

@@ -1,7 +1,7 @@
 -- The writer's step keeps the invariant and is answered right: whichever of the four things it comes to, the plain list is fed exactly where document 01 says, and
 -- a step that ends an operation answers what the plain list answered then.
 -- Assumes nothing.
-use Prim.Native.Nat.{ℕ, _+_, _*_, _-_, _≤_, _<_}
+use Prim.Native.Nat.{ℕ, _+_, _-_, _≤_, _<_}
 use mathlib.Core.Bool.{Bool, true, false, cond, not, false≢true}
 use mathlib.Core.Path.{_≡_, refl, sym, ap, subst, _∙_}
 use mathlib.Core.Logic.{_≢_}
@@ -18,18 +18,16 @@ use Rattle.record.specs.declared.Search.{Search}
 use Rattle.record.specs.declared.Search.the-variants.{Unread, Probing}
 use Rattle.record.specs.declared.PutStage.{PutStage}
 use Rattle.record.specs.declared.PutStage.the-variants.{Searching as PutStage·Searching, Scanning, Found as PutStage·Found, Chosen}
-use Rattle.record.specs.declared.Change.{Change}
 use Rattle.record.specs.declared.ChangeStage.{ChangeStage}
 use Rattle.record.specs.declared.ChangeStage.the-variants.{Searching as ChangeStage·Searching, Found as ChangeStage·Found}
 use Rattle.record.specs.declared.RemovalStage.{RemovalStage}
 use Rattle.record.specs.declared.RemovalStage.the-variants.{Searching as RemovalStage·Searching, Found as RemovalStage·Found, Lowering}
 use Rattle.record.specs.declared.WriterWork.{WriterWork}
 use Rattle.record.specs.declared.WriterWork.the-variants.{Idle, Putting, Changing, Removing}
-use Rattle.record.specs.Parts.{idleReader, workOf, withWriter, withNumbered}
-use Rattle.record_ranges.specs.Ranges.{inRange}
+use Rattle.record.specs.Parts.{idleReader, workOf, withWriter}
 use Rattle.record_ranges.proofs.Laws.{fields}
-use Rattle.answers.specs.Answers.{Answer, started, underway, lookedUp, placed, changed, removed, endedWith, walked, walkedLast, givenAgain, gives, refused, storedAnswer, hasEnded, isStarted, isRefused, Outcome, outcome}
-use Rattle.plain_list.specs.PlainList.{Rows, Told, Operation, feed, largestIndex}
+use Rattle.answers.specs.Answers.{Answer, started, underway, lookedUp, placed, changed, removed, endedWith, walked, walkedLast, givenAgain, gives, refused, hasEnded, isRefused, Outcome, outcome}
+use Rattle.plain_list.specs.PlainList.{Rows, Operation, feed, largestIndex}
 use Rattle.plain_list.proofs.RowLaws.{Steady, steady-same}
 use Rattle.search.proofs.SearchLaws.{searchLeft}
 use Rattle.moves.specs.declared.memory.WriterAccess.{WriterAccess}
@@ -40,10 +38,10 @@ use Rattle.moves.proofs.StepAgreement.{begun, fedBy, isWriterEnd, Recorded, no-
 use Rattle.writer.specs.Step.{writerAccess, writerAdvance, moved, writerRuns, stepWriter}
 use Rattle.writer.proofs.WriterLaws.{run-in-range, run-less}
 use Rattle.writer.proofs.WriterAgreement.{operationOf, operation-begun, writer-agrees}
-use Rattle.writer.proofs.CallCases.{Stepped, step-refused, runs, stepped}
+use Rattle.writer.proofs.CallCases.{Stepped, refuses-step, runs, stepped}
 use Rattle.command.specs.declared.Sent.{Sent}
-use Rattle.history.specs.World.{Role, writerStep, WriterNotes, Given, World, storesNow, endsNow, feedsNow, toldNow, rowsNow, steppedWriter, writerNow, witnessed, readerNow, givenTo, noted}
-use Rattle.history.specs.Claim.{stepBound, WriterEnded, WriterRight, Right}
+use Rattle.history.specs.World.{writerStep, WriterNotes, Given, World, storesNow, endsNow, feedsNow, toldNow, rowsNow, steppedWriter, writerNow, witnessed, readerNow, givenTo, noted}
+use Rattle.history.specs.Claim.{stepBound, Ended, WriterRight, writer-underway, put-ended, change-ended, removal-ended, ended-with}
 use Rattle.history.proofs.Readers.{ReaderOK, reader-on}
 use Rattle.history.proofs.Commands.{sentBy, alteredBy, commandOf, command-begun, no-command-of, fed-no-command, CommandsOK, with-command, recorded}
 use Rattle.history.proofs.Invariant.{WriterOK, Inv}
@@ -80,15 +78,15 @@ end-carried (givenAgain answer) e = refl
 end-carried (gives values) e = refl
 end-carried (refused n) e = absurd (false≢true e)
 
-end-right : (k : ℕ) (notes : WriterNotes) (answer : Answer) → isWriterEnd answer ≡ true → WriterEnded k notes answer → WriterRight k notes answer
+end-right : (k : ℕ) (notes : WriterNotes) (answer : Answer) → isWriterEnd answer ≡ true → Ended k notes answer → WriterRight k notes answer
 unfolding isWriterEnd
 end-right k notes started e h = absurd (false≢true e)
 end-right k notes underway e h = absurd (false≢true e)
 end-right k notes (lookedUp value) e h = absurd (false≢true e)
-end-right k notes (placed slot index) e h = h
-end-right k notes (changed value) e h = h
-end-right k notes (removed reach) e h = h
-end-right k notes (endedWith n) e h = h
+end-right k notes (placed slot index) e h = put-ended slot index h
+end-right k notes (changed value) e h = change-ended value h
+end-right k notes (removed reach) e h = removal-ended reach h
+end-right k notes (endedWith n) e h = ended-with n h
 end-right k notes (walked word) e h = absurd (false≢true e)
 end-right k notes (walkedLast word) e h = absurd (false≢true e)
 end-right k notes (givenAgain answer) e h = absurd (false≢true e)
@@ -281,7 +279,7 @@ module _ (world : World) (inv : Inv (world .panel .m) (world .panel .k) world) w
           left = left-after;
         })
         (commands-on same stay))
-        (subst (WriterRight k (steppedWriter notes false (toldNow world))) (sym answer) (in-time-more on))
+        (subst (WriterRight k (steppedWriter notes false (toldNow world))) (sym answer) (writer-underway (in-time-more on)))
 
     none-fed : fedBy work ≡ 0 → eqb (notes .feeds) 0 ≡ true
     none-fed unfed = eq-eqb (notes .feeds) 0 (noted-ok .feeds ∙ unfed)
@@ -304,7 +302,7 @@ module _ (world : World) (inv : Inv (world .panel .m) (world .panel .k) world) w
           left = left-after;
         })
         (subst (λ (acts : List Sent). CommandsOK (after .stations) (commandOf (move .work)) acts (world .ended)) (sym (no-acts none true)) (commands-on same stay)))
-        (subst (WriterRight k (steppedWriter notes true (toldNow world))) (sym answer) (in-time-more on))
+        (subst (WriterRight k (steppedWriter notes true (toldNow world))) (sym answer) (writer-underway (in-time-more on)))
 
     lowers-kept : storesSlot access ≡ false → fedBy work ≡ 1 → move .work ≡ Idle → move .answer ≡ removed (largestIndex m k (world .rows)) → after .stations ≡ panel .stations → After panel slots access move (world .rows) → Kept world writerStep (writerRuns panel slots work)
     unfolding isRefused hasEnded steppedWriter either both
@@ -315,7 +313,7 @@ module _ (world : World) (inv : Inv (world .panel .m) (world .panel .k) world) w
         (idle-absurd idle)
         (subst (λ (ended : List Given). CommandsOK (after .stations) (commandOf (move .work)) (world .acts) ended) (sym (no-ends (move .answer) none true)) (commands-idle idle stay)))
         (subst (WriterRight k (steppedWriter notes false (toldNow world))) (sym answer)
-        (record { as-told = sym (noted-ok .told fed); fed-once = noted-ok .feeds ∙ fed; in-time = in-time }))
+        (removal-ended (largestIndex m k (world .rows)) (record { as-told = sym (noted-ok .told fed); fed-once = noted-ok .feeds ∙ fed; in-time = in-time })))
 
     -- the commands after the end of an operation
     ended-commands : (storing : Bool) → move .work ≡ Idle → (was : WriterWork) → was ≡ work → Recorded (panel .stations) (after .stations) (move .answer) was → CommandsOK (after .stations) (commandOf (move .work)) (cond storing (notes .command ++ world .acts) (world .acts)) (givenTo (notes .command) (move .answer) ++ world .ended)
@@ -357,7 +355,7 @@ module _ (world : World) (inv : Inv (world .panel .m) (world .panel .k) world) w
     run-kept = by-cases step-ok
 
   by-step : (after : Outcome) → Stepped panel slots after → Kept world writerStep after
-  by-step after (step-refused n h) = refused-kept world inv writerStep n h
+  by-step after (refuses-step n h) = refused-kept world inv writerStep n h
   by-step after (runs busy) = run-kept busy
 
   pub step-kept : Kept world writerStep (stepWriter panel slots)

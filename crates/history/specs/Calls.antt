@@ -2,7 +2,7 @@
 use Prim.Native.Nat.{ℕ}
 use mathlib.Core.List.{List}
 use Rattle.record.specs.declared.Record.{Record}
-use Rattle.answers.specs.Answers.{Answer, Outcome, paperStart, paperEntry, paperReader, paperWriter}
+use Rattle.answers.specs.Answers.{Outcome}
 use Rattle.reader_step.specs.Reader.{stepReader}
 use Rattle.table.specs.Starts.{startLookup, startWalk}
 use Rattle.writer.specs.Starts.{startPut, startChange, startRemoval}
@@ -10,15 +10,6 @@ use Rattle.writer.specs.Step.{stepWriter}
 use Rattle.command.specs.Command.{startCommand}
 use Rattle.history.specs.declared.Call.{Call}
 use Rattle.history.specs.declared.Call.the-variants.{StartLookup, StartWalk, StepReader, StartPut, StartChange, StartRemoval, StartCommand, StepWriter}
-use Rattle.history.specs.declared.CallAnswer.{CallAnswer}
-use Rattle.history.specs.declared.CallAnswer.the-variants.{Start, Entry, Reader, Writer}
-
--- the answer of a call of any kind
-abbrev pub paperCall : CallAnswer → Answer
-paperCall (Start answer) = paperStart answer
-paperCall (Entry answer) = paperEntry answer
-paperCall (Reader answer) = paperReader answer
-paperCall (Writer answer) = paperWriter answer
 
 -- a call carried out on a record and its slots; a command takes the frame lent, the other calls do not look at it
 unfoldable pub applied : Record → List ℕ → Call → List ℕ → Outcome

@@ -7,7 +7,7 @@ use mathlib.Core.Path.{_≡_}
 use lib.Dec.{eqb}
 use Rattle.refusal.specs.Judging.{both}
 use Rattle.slot_words.specs.Word.{pointOf, valueOf}
-use Rattle.answers.specs.Answers.{Answer, started, underway, lookedUp, placed, changed, removed, endedWith, walked, walkedLast, givenAgain, gives, refused}
+use Rattle.answers.specs.Answers.{Answer, started, underway, lookedUp, placed, changed, removed, endedWith, walked, walkedLast, givenAgain, refused}
 use Rattle.plain_list.specs.PlainList.{Rows, absent, present, entryOf, lookupRow, Operation, nothing, put, change, removal, Each, Some, Shows}
 use Rattle.command.specs.declared.Sent.{Sent}
 use Rattle.history.specs.declared.Call.{Call}
@@ -19,21 +19,12 @@ unfoldable pub Gave : List Given → Answer → Sent → Type 0
 Gave ended answer sent = Some (λ (given : Given). (given .sent ≡ sent) × (given .answer ≡ answer)) ended
 
 -- a start: "an answer given again is the one its change gave"; no call is refused with 1
-abbrev pub StartRight : List Given → List Sent → Answer → Type 0
-StartRight ended command started = Unit {0}
-StartRight ended command underway = ⊥
-StartRight ended command (lookedUp value) = ⊥
-StartRight ended command (placed slot index) = ⊥
-StartRight ended command (changed value) = ⊥
-StartRight ended command (removed reach) = ⊥
-StartRight ended command (endedWith n) = ⊥
-StartRight ended command (walked word) = ⊥
-StartRight ended command (walkedLast word) = ⊥
-StartRight ended command (givenAgain answer) = Some (Gave ended answer) command
-StartRight ended command (gives values) = ⊥
-StartRight ended command (refused n) = n ≢ 1
+pub data StartRight (ended : List Given) (command : List Sent) : Answer → Type 0 where
+  start-made : StartRight ended command started
+  given-again : (answer : Answer) → Some (Gave ended answer) command → StartRight ended command (givenAgain answer)
+  start-refused : (n : ℕ) → n ≢ 1 → StartRight ended command (refused n)
 
--- "every lookup that has ended, one that the plain list gives after some call from its first step to its last"; at most k + 1 steps
+-- "every lookup that has ended, one that the plain list gives after some call from its first step to its last"; it takes at most k + 1 steps
 pub record LookupRight (k : ℕ) (notes : ReaderNotes) (answer : Answer) : Type 0 where
   pub one-moment : Some (λ (rows : Rows). answer ≡ lookupRow (notes .point) rows) (notes .moments)
   pub in-time : notes .steps ≤ k + 1
@@ -51,24 +42,14 @@ reports point (word ∷ words) = cond (eqb (pointOf word) point) 1 0 + reports p
 unfoldable pub ReportedOnce : ReaderNotes → Type 0
 ReportedOnce notes = (point : ℕ) → Each (λ (rows : Rows). entryOf point rows ≢ absent) (notes .moments) → reports point (notes .words) ≡ 1
 
--- "slots 0 to m − 1, one a step, m steps"
-pub record WalkRight (rows : Rows) (notes : ReaderNotes) (word : ℕ) : Type 0 where
-  pub true-now : ReportTrue rows (notes .steps - 1) word
-
--- a reader's step, by its answer
-abbrev pub ReaderRight : ℕ → ℕ → Rows → ReaderNotes → Answer → Type 0
-ReaderRight m k rows notes started = ⊥
-ReaderRight m k rows notes underway = notes .steps ≤ k
-ReaderRight m k rows notes (lookedUp value) = LookupRight k notes (lookedUp value)
-ReaderRight m k rows notes (placed slot index) = ⊥
-ReaderRight m k rows notes (changed value) = ⊥
-ReaderRight m k rows notes (removed reach) = ⊥
-ReaderRight m k rows notes (endedWith n) = LookupRight k notes (endedWith n)
-ReaderRight m k rows notes (walked word) = WalkRight rows notes word × (notes .steps < m)
-ReaderRight m k rows notes (walkedLast word) = WalkRight rows notes word × (notes .steps ≡ m) × ReportedOnce notes
-ReaderRight m k rows notes (givenAgain answer) = ⊥
-ReaderRight m k rows notes (gives values) = ⊥
-ReaderRight m k rows notes (refused n) = n ≢ 1
+-- a reader's step has one of these answers, and then this holds; a walk reads "slots 0 to m − 1, one a step, m steps"
+pub data ReaderRight (m k : ℕ) (rows : Rows) (notes : ReaderNotes) : Answer → Type 0 where
+  lookup-underway : notes .steps ≤ k → ReaderRight m k rows notes underway
+  lookup-found : (value : ℕ) → LookupRight k notes (lookedUp value) → ReaderRight m k rows notes (lookedUp value)
+  lookup-unknown : LookupRight k notes (endedWith 7) → ReaderRight m k rows notes (endedWith 7)
+  walk-underway : (word : ℕ) → ReportTrue rows (notes .steps - 1) word → notes .steps < m → ReaderRight m k rows notes (walked word)
+  walk-ended : (word : ℕ) → ReportTrue rows (notes .steps - 1) word → notes .steps ≡ m → ReportedOnce notes → ReaderRight m k rows notes (walkedLast word)
+  reader-refused : (n : ℕ) → n ≢ 1 → ReaderRight m k rows notes (refused n)
 
 -- a put: "At most 2k + 2 steps"; a change: "At most k + 2"; a removal: "At most k + 3"
 unfoldable pub stepBound : ℕ → Operation → ℕ
@@ -77,26 +58,20 @@ stepBound k (put point value) = 2 * k + 2
 stepBound k (change point keep flip) = k + 2
 stepBound k (removal point) = k + 3
 
--- "Every put, change or removal that has ended gave the answer above": what the plain list answered when it was fed, once, within the bound
-pub record WriterEnded (k : ℕ) (notes : WriterNotes) (answer : Answer) : Type 0 where
+-- "Every put, change or removal that has ended gave the answer above": what the plain list answered when it was fed, once; within the bound
+pub record Ended (k : ℕ) (notes : WriterNotes) (answer : Answer) : Type 0 where
   pub as-told : answer ≡ notes .told
   pub fed-once : notes .feeds ≡ 1
   pub in-time : notes .steps ≤ stepBound k (notes .asked)
 
--- the writer's step, by its answer
-abbrev pub WriterRight : ℕ → WriterNotes → Answer → Type 0
-WriterRight k notes started = ⊥
-WriterRight k notes underway = notes .steps < stepBound k (notes .asked)
-WriterRight k notes (lookedUp value) = ⊥
-WriterRight k notes (placed slot index) = WriterEnded k notes (placed slot index)
-WriterRight k notes (changed value) = WriterEnded k notes (changed value)
-WriterRight k notes (removed reach) = WriterEnded k notes (removed reach)
-WriterRight k notes (endedWith n) = WriterEnded k notes (endedWith n)
-WriterRight k notes (walked word) = ⊥
-WriterRight k notes (walkedLast word) = ⊥
-WriterRight k notes (givenAgain answer) = ⊥
-WriterRight k notes (gives values) = ⊥
-WriterRight k notes (refused n) = n ≢ 1
+-- the writer's step has one of these answers, and then this holds
+pub data WriterRight (k : ℕ) (notes : WriterNotes) : Answer → Type 0 where
+  writer-underway : notes .steps < stepBound k (notes .asked) → WriterRight k notes underway
+  put-ended : (slot index : ℕ) → Ended k notes (placed slot index) → WriterRight k notes (placed slot index)
+  change-ended : (value : ℕ) → Ended k notes (changed value) → WriterRight k notes (changed value)
+  removal-ended : (reach : ℕ) → Ended k notes (removed reach) → WriterRight k notes (removed reach)
+  ended-with : (n : ℕ) → Ended k notes (endedWith n) → WriterRight k notes (endedWith n)
+  writer-refused : (n : ℕ) → n ≢ 1 → WriterRight k notes (refused n)
 
 -- a call's answer is right, by what the call is for
 abbrev pub Right : ℕ → ℕ → World → World → Role → Answer → Type 0
@@ -117,7 +92,7 @@ sents [] = []
 sents (given ∷ rest) = given .sent ∷ sents rest
 
 -- what holds before the first call and after each
-pub record Stands (m k : ℕ) (world : World) : Type 0 where
+pub record WorldRight (m k : ℕ) (world : World) : Type 0 where
   pub m-stays : world .panel .m ≡ m
   pub k-stays : world .panel .k ≡ k
   -- "After each call the slots are 0 except for each row's word at its place"
@@ -129,9 +104,9 @@ pub record Stands (m k : ℕ) (world : World) : Type 0 where
 
 -- the claim of a list of calls that begins in this world
 abbrev pub Holds : ℕ → ℕ → World → List Request → Type 0
-Holds m k world [] = Stands m k world
+Holds m k world [] = WorldRight m k world
 Holds m k world (request ∷ rest) =
-    Stands m k world × Right m k world (next world request) (roleOf request (request .call)) (outcomeOf world request .answer) × Holds m k (next world request) rest
+    WorldRight m k world × Right m k world (next world request) (roleOf request (request .call)) (outcomeOf world request .answer) × Holds m k (next world request) rest
 
 -- the claim
 abbrev pub Claim : ℕ → ℕ → List Request → Type 0

@@ -1,3 +1,4 @@
 pub mod Calls
 pub mod World
 pub mod Claim
+pub mod Marked

@@ -1,23 +1,20 @@
 // Any call of document 01 as a value, and `apply`, which carries it out. specs/ states the claim about
 // every list of such calls (demand 3), and proofs/ shows it.
-ghost use Prim.Native.Nat.{ℕ};
-ghost use mathlib.Core.List.{List};
+mod outcomes;
+
 ghost use mathlib.Core.Path.{_≡_};
-ghost use Rattle.answers.specs.Answers.{paperStart, paperEntry, paperReader, paperWriter, outcome};
-ghost use Rattle.history.specs.Calls.{paperCall, applied};
-use answers::EntryAnswer;
-use answers::ReaderAnswer;
-use answers::StartAnswer;
-use answers::WriterAnswer;
-use command::EntryOutcome;
+ghost use Rattle.answers.specs.Answers.{paperCall, outcome};
+ghost use Rattle.history.specs.Calls.{applied};
+use crate::outcomes::entered;
+use crate::outcomes::read;
+use crate::outcomes::started;
+use crate::outcomes::written;
+use answers::CallAnswer;
 use command::start_command;
-use reader_step::ReaderOutcome;
 use reader_step::step_reader;
 use record::Record;
-use table::StartOutcome;
 use table::start_lookup;
 use table::start_walk;
-use writer::WriterOutcome;
 use writer::start_change;
 use writer::start_put;
 use writer::start_removal;
@@ -35,66 +32,10 @@ pub enum Call {
     StepWriter,
 }
 
-// What a call answers, by its kind.
-pub enum CallAnswer {
-    Start(StartAnswer),
-    Entry(EntryAnswer),
-    Reader(ReaderAnswer),
-    Writer(WriterAnswer),
-}
-
 // What a call leaves besides the slots: the record, and the answer.
 pub struct CallOutcome {
     pub panel: Record,
     pub answer: CallAnswer,
-}
-
-// The outcome of a start among those of all calls.
-fn of_start(left: StartOutcome) -> CallOutcome
-    ensures { λ r. ⌜ ((slots : List ℕ) → outcome (r .panel) slots (paperCall (r .answer)) ≡ outcome (left .panel) slots (paperStart (left .answer))) ⌝ }
-{
-    let panel = left.panel;
-    let answer = left.answer;
-    CallOutcome {
-        panel: panel,
-        answer: CallAnswer::Start(answer),
-    }
-}
-
-// The same of the command entry.
-fn of_entry(left: EntryOutcome) -> CallOutcome
-    ensures { λ r. ⌜ ((slots : List ℕ) → outcome (r .panel) slots (paperCall (r .answer)) ≡ outcome (left .panel) slots (paperEntry (left .answer))) ⌝ }
-{
-    let panel = left.panel;
-    let answer = left.answer;
-    CallOutcome {
-        panel: panel,
-        answer: CallAnswer::Entry(answer),
-    }
-}
-
-// The same of a reader's step.
-fn of_reader(left: ReaderOutcome) -> CallOutcome
-    ensures { λ r. ⌜ ((slots : List ℕ) → outcome (r .panel) slots (paperCall (r .answer)) ≡ outcome (left .panel) slots (paperReader (left .answer))) ⌝ }
-{
-    let panel = left.panel;
-    let answer = left.answer;
-    CallOutcome {
-        panel: panel,
-        answer: CallAnswer::Reader(answer),
-    }
-}
-
-// The same of the writer's step.
-fn of_writer(left: WriterOutcome) -> CallOutcome
-    ensures { λ r. ⌜ ((slots : List ℕ) → outcome (r .panel) slots (paperCall (r .answer)) ≡ outcome (left .panel) slots (paperWriter (left .answer))) ⌝ }
-{
-    let panel = left.panel;
-    let answer = left.answer;
-    CallOutcome {
-        panel: panel,
-        answer: CallAnswer::Writer(answer),
-    }
 }
 
 // Carries out a call. A command takes the frame lent; the other calls do not look at it.
@@ -102,15 +43,15 @@ pub fn apply(panel: Record, slots: &mut [u64], call: Call, frame: &[u8]) -> Call
     ensures { λ r. ⌜ outcome (r .panel) (now (slots .exit)) (paperCall (r .answer)) ≡ applied panel (now (slots .entry)) call (now (frame .entry)) ⌝ }
 {
     match call {
-        Call::StartLookup { reader, point } => of_start(start_lookup(panel, slots, reader, point)),
-        Call::StartWalk { reader } => of_start(start_walk(panel, slots, reader)),
-        Call::StepReader { reader } => of_reader(step_reader(panel, slots, reader)),
-        Call::StartPut { point, value } => of_start(start_put(panel, slots, point, value)),
+        Call::StartLookup { reader, point } => started(start_lookup(panel, slots, reader, point)),
+        Call::StartWalk { reader } => started(start_walk(panel, slots, reader)),
+        Call::StepReader { reader } => read(step_reader(panel, slots, reader)),
+        Call::StartPut { point, value } => started(start_put(panel, slots, point, value)),
         Call::StartChange { point, keep, flip } => {
-            of_start(start_change(panel, slots, point, keep, flip))
+            started(start_change(panel, slots, point, keep, flip))
         }
-        Call::StartRemoval { point } => of_start(start_removal(panel, slots, point)),
-        Call::StartCommand => of_entry(start_command(panel, slots, frame)),
-        Call::StepWriter => of_writer(step_writer(panel, slots)),
+        Call::StartRemoval { point } => started(start_removal(panel, slots, point)),
+        Call::StartCommand => entered(start_command(panel, slots, frame)),
+        Call::StepWriter => written(step_writer(panel, slots)),
     }
 }

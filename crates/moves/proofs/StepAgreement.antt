@@ -11,7 +11,6 @@ use Rattle.hash.specs.Position.{positionOf}
 use Rattle.record.specs.declared.Record.{Record}
 use Rattle.record.specs.declared.Search.the-variants.{Unread}
 use Rattle.record.specs.declared.Place.{Place}
-use Rattle.record.specs.declared.Put.{Put}
 use Rattle.record.specs.declared.PutStage.{PutStage}
 use Rattle.record.specs.declared.PutStage.the-variants.{Searching as PutStage·Searching, Scanning, Found as PutStage·Found, Chosen}
 use Rattle.record.specs.declared.Change.{Change}
@@ -23,7 +22,6 @@ use Rattle.record.specs.declared.Station.{Station}
 use Rattle.record.specs.Parts.{withNumbered}
 use Rattle.record.specs.declared.ChangeStage.{ChangeStage}
 use Rattle.record.specs.declared.ChangeStage.the-variants.{Searching as ChangeStage·Searching, Found as ChangeStage·Found}
-use Rattle.record.specs.declared.Removal.{Removal}
 use Rattle.record.specs.declared.RemovalStage.{RemovalStage}
 use Rattle.record.specs.declared.RemovalStage.the-variants.{Searching as RemovalStage·Searching, Found as RemovalStage·Found, Lowering}
 use Rattle.record.specs.declared.WriterWork.{WriterWork}
@@ -35,7 +33,6 @@ use Rattle.plain_list.proofs.IndexLaws.{Lowest}
 use Rattle.plain_list.proofs.Agreement.{Agrees, Tight}
 use Rattle.search.proofs.TrailLaws.{Trail, FoundAt}
 use Rattle.moves.specs.declared.memory.WriterAccess.{WriterAccess}
-use Rattle.moves.specs.declared.update.Update.{Update}
 use Rattle.moves.specs.Memory.{slotsAfter, storesSlot}
 use Rattle.moves.specs.Moves.{WriterMove, isIdle, updated}
 

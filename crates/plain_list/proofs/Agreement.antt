@@ -18,7 +18,7 @@ use Rattle.slot_words.proofs.WordLaws.{word-point, word-value, word-some, word-
 use Rattle.slot_words.proofs.TakenLaws.{taken-room}
 use Rattle.record.specs.Parts.{numbered}
 use Rattle.work_ranges.specs.WorkRanges.{validPoint}
-use Rattle.plain_list.specs.PlainList.{Rows, Entry, absent, present, entryOf, withValue, isPlace, indexOf, largestIndex, Each, Stands, Shows}
+use Rattle.plain_list.specs.PlainList.{Rows, present, entryOf, withValue, isPlace, indexOf, largestIndex, Each, AtPlace, Shows}
 use Rattle.plain_list.proofs.RowLaws.{entry-same, entry-behind, value-same, value-other, Distinct, At, found-place, place-found}
 use Rattle.plain_list.proofs.IndexLaws.{Lowest, index-is, countIndex, count-high, Indexed, largest-found, largest-bound}
 
@@ -157,7 +157,7 @@ module _ (m k reach : ℕ) (counts slots : List ℕ) (rows : Rows) (agrees : Agr
       go (inr x) = omega (arith, largest-found m k (x .point) (x .value) (x .place) rows (x .found), x .index)
 
   -- the slots show the plain list
-  stand-all : (some : Rows) → Distinct some → ((q value place : ℕ) → entryOf q some ≡ present value place → entryOf q rows ≡ present value place) → Each (Stands m slots) some
+  stand-all : (some : Rows) → Distinct some → ((q value place : ℕ) → entryOf q some ≡ present value place → entryOf q rows ≡ present value place) → Each (AtPlace m slots) some
   stand-all [] d among = tt
   stand-all (r ∷ rest) d among =
       let h = agrees .held (r .point) (r .value) (r .place) (among (r .point) (r .value) (r .place) (entry-same r rest)) in (

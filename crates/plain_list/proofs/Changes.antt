@@ -3,9 +3,9 @@
 -- Assumes nothing.
 use Prim.Native.Nat.{ℕ, _+_, _-_, _≤_, _<_, min}
 use mathlib.Core.Bool.{true, cond}
-use mathlib.Core.Path.{_≡_, refl, sym, ap, subst, _∙_}
+use mathlib.Core.Path.{_≡_, sym, ap, subst, _∙_}
 use mathlib.Core.Logic.{_⊎_, inl, inr, _≢_}
-use mathlib.Core.List.{List, [], _∷_}
+use mathlib.Core.List.{List, _∷_}
 use native.Mathlib.Omega.{arith}
 use native.Mathlib.Decide.{ℕ-discrete}
 use borrow.Author.Tests.{eq-eqb, ne-eqb}
@@ -13,14 +13,13 @@ use lib.Dec.{eqb}
 use lib.ListN.{getD, set, length, length-set}
 use lib.Seq.{getD-set-same, getD-set-other}
 use Rattle.slot_words.specs.Word.{wordOf}
-use Rattle.slot_words.specs.Taken.{takenSlots}
 use Rattle.slot_words.proofs.WordLaws.{word-some}
 use Rattle.slot_words.proofs.TakenLaws.{taken-replaced, taken-added, taken-emptied}
 use Rattle.record.specs.Parts.{numbered, withNumbered}
 use Rattle.record.proofs.Numbered.{replaced-length, replaced-same, replaced-other}
 use Rattle.work_ranges.specs.WorkRanges.{validPoint}
 use Rattle.plain_list.specs.PlainList.{Row, row, Rows, absent, present, entryOf, withValue, without, indexOf}
-use Rattle.plain_list.proofs.RowLaws.{present≢absent, entry-same, entry-other, entry-behind, value-same, value-other, value-length, gone, left, without-length, distinct-value, distinct-without, At, at-value, at-behind}
+use Rattle.plain_list.proofs.RowLaws.{present≢absent, entry-same, entry-other, value-same, value-other, value-length, gone, left, without-length, distinct-value, distinct-without, At, at-value, at-behind}
 use Rattle.plain_list.proofs.IndexLaws.{Lowest, index-is, countIndex, count-value, count-without}
 use Rattle.plain_list.proofs.Agreement.{valid-low, Held, Agrees, place-low, one-there, row-some, count-room}
 

@@ -1,17 +1,17 @@
 -- Laws of the plain list alone: a point's row after each of the list's operations; each point has one row; which places are taken.
 -- Assumes nothing.
-use Prim.Native.Nat.{ℕ, suc, _≤_}
+use Prim.Native.Nat.{ℕ, suc}
 use mathlib.Core.Bool.{Bool, true, false, cond}
 use mathlib.Core.Path.{_≡_, refl, sym, ap, _∙_}
 use mathlib.Core.Logic.{_≢_}
-use mathlib.Core.List.{List, [], _∷_}
+use mathlib.Core.List.{[], _∷_}
 use native.Mathlib.Omega.{arith}
 use native.Mathlib.Decide.{ℕ-discrete}
 use lib.Dec.{eqb}
 use lib.ListN.{length}
 use borrow.Author.Tests.{eqb-true, eq-eqb, ne-eqb}
 use Rattle.refusal.specs.Judging.{either}
-use Rattle.plain_list.specs.PlainList.{Row, row, Rows, Entry, absent, present, entryOf, withValue, without, isPlace}
+use Rattle.plain_list.specs.PlainList.{Row, Rows, absent, present, entryOf, withValue, without, isPlace}
 
 -- an entry is one thing only
 pub present≢absent : {A : Type 0} {value place : ℕ} → present value place ≡ absent → A

@@ -147,12 +147,12 @@ pub data Some {A : Type 0} (P : A → Type 0) : List A → Type 0 where
   there : {x : A} {rest : List A} → Some P rest → Some P (x ∷ rest)
 
 -- a row's word stands at its place
-pub record Stands (m : ℕ) (slots : List ℕ) (r : Row) : Type 0 where
+pub record AtPlace (m : ℕ) (slots : List ℕ) (r : Row) : Type 0 where
   pub inside : r .place < m
   pub word : getD slots (r .place) 0 ≡ wordOf (r .point) (r .value)
 
 -- "the slots are 0 except for each row's word at its place"
 pub record Shows (m : ℕ) (slots : List ℕ) (rows : Rows) : Type 0 where
   pub whole : length slots ≡ m
-  pub words : Each (Stands m slots) rows
+  pub words : Each (AtPlace m slots) rows
   pub others : (slot : ℕ) → slot < m → isPlace slot rows ≡ false → getD slots slot 0 ≡ 0

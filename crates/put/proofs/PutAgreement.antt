@@ -18,7 +18,6 @@ use Rattle.hash.proofs.Laws.{position-below}
 use Rattle.slot_words.specs.Word.{wordOf}
 use Rattle.record.specs.declared.Record.{Record}
 use Rattle.record.specs.declared.Place.{Place}
-use Rattle.record.specs.declared.Search.{Search}
 use Rattle.record.specs.declared.Put.{Put}
 use Rattle.record.specs.declared.PutStage.{PutStage}
 use Rattle.record.specs.declared.PutStage.the-variants.{Searching, Scanning, Found as PutStage·Found, Chosen}
@@ -43,9 +42,18 @@ use Rattle.moves.specs.declared.memory.WriterAccess.the-variants.{Read, StoreRe
 use Rattle.moves.specs.declared.update.Update.the-variants.{Nothing, Reach, Counted}
 use Rattle.moves.specs.Counts.{counted}
 use Rattle.moves.specs.Memory.{storeWord, accessRead, slotsAfter, storesSlot}
-use Rattle.moves.specs.Moves.{WriterMove, isIdle, goesOn, ends, updated}
-use Rattle.moves.proofs.StepAgreement.{Standing, standing, Below, PutOK, WorkOK, begun, After, isWriterEnd, no-command, StepOK, goes-on, ends-fed}
-use Rattle.put.specs.Put.{putStageAccess, putAccess, putAt, putAnswered, putSearched, putScanned, putTakes, putStageAdvance, putAdvance}
+use Rattle.moves.specs.Moves.{isIdle, goesOn, ends, updated}
+use Rattle.moves.proofs.StepAgreement.{Standing, standing, Below, PutOK, WorkOK, begun, isWriterEnd, no-command, StepOK, goes-on, ends-fed}
+use Rattle.put.specs.Put.{exceeds, putStageAccess, putAccess, putAt, putAnswered, putSearched, putScanned, putTakes, putStageAdvance, putAdvance}
+
+-- what the comparison with the reach says
+above : (reach index : ℕ) → exceeds reach index ≡ true → reach < index
+unfolding exceeds
+above reach index e = omega (arith, ltb-true)
+
+covered : (reach index : ℕ) → exceeds reach index ≡ false → index ≤ reach
+unfolding exceeds
+covered reach index e = omega (arith, ltb-false)
 
 module _ (panel : Record) (slots : List ℕ) (rows : Rows) (put : Put) (agrees : Agrees (panel .m) (panel .k) (panel .reach) (panel .counts) slots rows) (valid : validPoint (put .point) ≡ true) (fits : put .value < 4294967296) where
   abbrev m : ℕ
@@ -131,7 +139,7 @@ module _ (panel : Record) (slots : List ℕ) (rows : Rows) (put : Put) (agrees :
   -- the reach is raised
   raises : (index : ℕ) → put .stage ≡ Chosen index → within 1 index k ≡ true → Below m q slots rows index → word-at index ≡ 0 → panel .reach < index → StepOK panel slots (StoreReach index) (record { work = Putting put; update = Reach index; answer = underway }) rows (putRow m k q (put .value) rows) (Putting put)
   unfolding storesSlot slotsAfter isIdle updated withReach
-  raises index e inside below empty above =
+  raises index e inside below empty more =
       goes-on refl refl refl refl refl refl refl
       (record {
         agrees = agrees-reached m k (panel .reach) (panel .counts) slots rows agrees index (within-high 1 index k inside) (λ q′ value place j f l. let h = agrees .held q′ value place f in omega (arith, lowest-one m k q′ place j (h .index) l (h .lowest), h .reached));
@@ -141,11 +149,11 @@ module _ (panel : Record) (slots : List ℕ) (rows : Rows) (put : Put) (agrees :
   -- the slot is stored, and the index counted
   stores : (index : ℕ) → within 1 index k ≡ true → Below m q slots rows index → word-at index ≡ 0 → Tight m k (panel .reach) rows ⊎ (panel .reach ≡ index) → index ≤ panel .reach → StepOK panel slots (storeWord m q index (wordOf q (put .value))) (ends (Counted index) (placed (positionOf m q index) index)) rows (putRow m k q (put .value) rows) (Putting put)
   unfolding storeWord slotsAfter ends isWriterEnd updated counted withCount countOf
-  stores index inside below empty top covered =
+  stores index inside below empty top reached =
       subst (λ t. StepOK panel slots (storeWord m q index (wordOf q (put .value))) (ends (Counted index) (placed (positionOf m q index) index)) rows t (Putting put)) (sym (told-chosen index inside below empty))
       (ends-fed refl refl refl refl (steady-added (row q (put .value) (positionOf m q index)) rows (below .none)) (no-command refl refl)
       (record {
-        agrees = agrees-added m k (panel .reach) (panel .counts) slots rows agrees q (put .value) (positionOf m q index) index (below .none) valid fits empty lowest covered;
+        agrees = agrees-added m k (panel .reach) (panel .counts) slots rows agrees q (put .value) (positionOf m q index) index (below .none) valid fits empty lowest reached;
         work = tight top;
       }))
     where
@@ -167,11 +175,11 @@ module _ (panel : Record) (slots : List ℕ) (rows : Rows) (put : Put) (agrees :
 
   takes : (index : ℕ) → put .stage ≡ Chosen index → within 1 index k ≡ true → Below m q slots rows index → word-at index ≡ 0 → Tight m k (panel .reach) rows ⊎ (panel .reach ≡ index) → StepOK panel slots (putStageAccess m (panel .reach) put (Chosen index)) (putTakes m (panel .reach) put index) rows (putRow m k q (put .value) rows) (Putting put)
   unfolding putStageAccess putTakes
-  takes index e inside below empty top = go (ltb (panel .reach) index) refl
+  takes index e inside below empty top = go (exceeds (panel .reach) index) refl
     where
-      go : (above : Bool) → ltb (panel .reach) index ≡ above → StepOK panel slots (cond above (StoreReach index) (storeWord m q index (wordOf q (put .value)))) (cond above (record { work = Putting put; update = Reach index; answer = underway }) (ends (Counted index) (placed (positionOf m q index) index))) rows (putRow m k q (put .value) rows) (Putting put)
-      go true f = raises index e inside below empty (ltb-true (panel .reach) index f)
-      go false f = stores index inside below empty top (ltb-false (panel .reach) index f)
+      go : (more : Bool) → exceeds (panel .reach) index ≡ more → StepOK panel slots (cond more (StoreReach index) (storeWord m q index (wordOf q (put .value)))) (cond more (record { work = Putting put; update = Reach index; answer = underway }) (ends (Counted index) (placed (positionOf m q index) index))) rows (putRow m k q (put .value) rows) (Putting put)
+      go true f = raises index e inside below empty (above (panel .reach) index f)
+      go false f = stores index inside below empty top (covered (panel .reach) index f)
 
   -- the row's word is stored anew
   overwrites : (place : Place) → Standing m k q rows place → Tight m k (panel .reach) rows → StepOK panel slots (storeWord m q (place .index) (wordOf q (put .value))) (ends Nothing (placed (positionOf m q (place .index)) (place .index))) rows (putRow m k q (put .value) rows) (Putting put)

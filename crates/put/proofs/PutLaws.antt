@@ -30,7 +30,7 @@ use Rattle.moves.specs.Memory.{storeWord}
 use Rattle.moves.specs.declared.update.Update.the-variants.{Nothing, Reach, Counted}
 use Rattle.moves.specs.Moves.{WriterMove, isIdle, goesOn, ends}
 use Rattle.moves.proofs.MoveLaws.{slotNamed, updateInRange, reachAfter, reachStored, raising, raising-low, raising-high, raising-grows, putSearchLeft, putLeft, writerLeft, OneMove}
-use Rattle.put.specs.Put.{putStageAccess, putAccess, putAt, putAnswered, putSearched, putScanned, putTakes, putStageAdvance, putAdvance}
+use Rattle.put.specs.Put.{exceeds, putStageAccess, putAccess, putAt, putAnswered, putSearched, putScanned, putTakes, putStageAdvance, putAdvance}
 
 search-left : (k reach : ℕ) (search : Search) → putSearchLeft k reach search ≤ searchLeft k search + (k + 1 + raising reach k)
 unfolding putSearchLeft searchLeft
@@ -64,7 +64,7 @@ module _ (k reach : ℕ) (put : Put) (low : 1 ≤ k) (valid : validPoint (put .p
       go false false e = record { work-fits = refl; update-fits = refl; ended = refl; less = omega arith }
 
   takes : (m index : ℕ) → within 1 index k ≡ true → put .stage ≡ Chosen index → OneMove k reach (1 + raising reach index) (putTakes m reach put index)
-  unfolding putTakes ends putInRange putStageInRange putLeft writerInRange updateInRange reachAfter writerLeft raising isUnderway isIdle
+  unfolding exceeds putTakes ends putInRange putStageInRange putLeft writerInRange updateInRange reachAfter writerLeft raising isUnderway isIdle
   takes m index h e = go (ltb reach index) refl
     where
       high : index ≤ k
@@ -117,7 +117,7 @@ module _ (m k reach : ℕ) (put : Put) (word : ℕ) where
       go false false = refl
 
   takes-reach : (index : ℕ) → reachAfter reach (putTakes m reach put index .update) ≡ reachStored reach (putStageAccess m reach put (Chosen index))
-  unfolding putTakes putStageAccess storeWord ends reachAfter reachStored
+  unfolding exceeds putTakes putStageAccess storeWord ends reachAfter reachStored
   takes-reach index = go (ltb reach index)
     where
       go : (above : Bool) → reachAfter reach (cond {A = WriterMove} above (record { work = Putting put; update = Reach index; answer = underway }) (ends (Counted index) (placed (positionOf m (put .point) index) index)) .update) ≡ reachStored reach (cond above (StoreReach index) (storeWord m (put .point) index (wordOf (put .point) (put .value))))
@@ -138,7 +138,7 @@ module _ (m k reach : ℕ) (put : Put) (word : ℕ) where
 -- a step reads or stores one of the slots lent
 module _ (m reach : ℕ) (put : Put) (low : 1 ≤ m) where
   stage-inside : (stage : PutStage) → slotNamed (putStageAccess m reach put stage) < m
-  unfolding putStageAccess storeWord slotNamed slotRead
+  unfolding exceeds putStageAccess storeWord slotNamed slotRead
   stage-inside (Searching search) = search-inside m (put .point) search low
   stage-inside (Scanning index) = position-below m (put .point) index low
   stage-inside (PutStage·Found place) = position-below m (put .point) (place .index) low

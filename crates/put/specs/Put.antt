@@ -1,6 +1,6 @@
 -- Document 01, "Steps": a put. Where it compares an index with the reach, "the record's own reach at that step is meant".
 use Prim.Native.Nat.{ℕ, _+_}
-use mathlib.Core.Bool.{cond}
+use mathlib.Core.Bool.{Bool, cond}
 use lib.Dec.{ltb, eqb}
 use Rattle.hash.specs.Position.{positionOf}
 use Rattle.record.specs.declared.Put.{Put}
@@ -21,13 +21,17 @@ use Rattle.moves.specs.declared.update.Update.the-variants.{Nothing, Reach, Cou
 use Rattle.moves.specs.Memory.{storeWord}
 use Rattle.moves.specs.Moves.{WriterMove, goesOn, ends}
 
+-- "If i exceeds the reach"
+unfoldable pub exceeds : ℕ → ℕ → Bool
+exceeds reach index = ltb reach index
+
 -- part 1, by the stage: search; read positions 1 to k; "store the new word there"; "store the reach as i *first*, then store the slot"
 unfoldable pub putStageAccess : ℕ → ℕ → Put → PutStage → WriterAccess
 putStageAccess m reach put (Searching search) = Read (searchAccess m (put .point) search)
 putStageAccess m reach put (Scanning index) = Read (Slot (positionOf m (put .point) index))
 putStageAccess m reach put (PutStage·Found place) = storeWord m (put .point) (place .index) (wordOf (put .point) (put .value))
 putStageAccess m reach put (Chosen index) =
-    cond (ltb reach index) (StoreReach index) (storeWord m (put .point) index (wordOf (put .point) (put .value)))
+    cond (exceeds reach index) (StoreReach index) (storeWord m (put .point) index (wordOf (put .point) (put .value)))
 
 -- part 1: the access that comes next
 unfoldable pub putAccess : ℕ → ℕ → Put → WriterAccess
@@ -56,7 +60,7 @@ putScanned k put index word =
 -- "If i exceeds the reach, store the reach as i *first*, then store the slot and count index i"
 unfoldable pub putTakes : ℕ → ℕ → Put → ℕ → WriterMove
 putTakes m reach put index =
-    cond (ltb reach index) (record { work = Putting put; update = Reach index; answer = underway })
+    cond (exceeds reach index) (record { work = Putting put; update = Reach index; answer = underway })
     (ends (Counted index) (placed (positionOf m (put .point) index) index))
 
 -- part 3, by the stage

@@ -23,7 +23,7 @@ use Rattle.record.specs.declared.WriterWork.the-variants.{Removing}
 use Rattle.record.specs.Parts.{numbered, withNumbered, countOf, withCount, withReach}
 use Rattle.work_ranges.specs.WorkRanges.{validPoint, removalStageInRange, removalInRange}
 use Rattle.answers.specs.Answers.{removed, endedWith}
-use Rattle.plain_list.specs.PlainList.{Rows, absent, entryOf, without, indexOf, largestIndex, Told, tells, removeEntry, removeRow}
+use Rattle.plain_list.specs.PlainList.{Rows, absent, entryOf, without, indexOf, largestIndex, tells, removeEntry, removeRow}
 use Rattle.plain_list.proofs.RowLaws.{left, steady-same, steady-without}
 use Rattle.plain_list.proofs.IndexLaws.{index-is, countIndex, Indexed, found-counted, counted-found}
 use Rattle.plain_list.proofs.Agreement.{valid-low, Agrees, Tight, top-is}
@@ -36,12 +36,13 @@ use Rattle.search.specs.Access.{wordRead}
 use Rattle.search.specs.Search.{searchAccess, searchAdvance}
 use Rattle.search.proofs.TrailLaws.{Knows, search-knows}
 use Rattle.moves.specs.declared.memory.WriterAccess.the-variants.{Read, StoreReach}
+use Rattle.moves.specs.declared.update.Update.{Update}
 use Rattle.moves.specs.declared.update.Update.the-variants.{Nothing, Uncounted}
 use Rattle.moves.specs.Counts.{uncounted, largestCounted}
 use Rattle.moves.specs.Memory.{storeWord, accessRead, slotsAfter, storesSlot}
 use Rattle.moves.specs.Moves.{isIdle, ends, updated}
 use Rattle.moves.proofs.CountLaws.{largest-high, largest-covers, largest-counted}
-use Rattle.moves.proofs.StepAgreement.{Standing, standing, RemovalOK, WorkOK, begun, fedAt, isWriterEnd, no-command, After, StepOK, goes-on, ends-fed, empties, lowers}
+use Rattle.moves.proofs.StepAgreement.{Standing, standing, RemovalOK, WorkOK, begun, fedAt, isWriterEnd, no-command, StepOK, goes-on, ends-fed, empties, lowers}
 use Rattle.removal.specs.Removal.{removalStageAccess, removalAccess, removalAt, removalAnswered, removalSearched, isLast, removalEmpties, removalLowers, removalStageAdvance, removalAdvance}
 
 module _ (panel : Record) (slots : List ℕ) (rows : Rows) (removal : Removal) (agrees : Agrees (panel .m) (panel .k) (panel .reach) (panel .counts) slots rows) (valid : validPoint (removal .point) ≡ true) where
@@ -54,15 +55,20 @@ module _ (panel : Record) (slots : List ℕ) (rows : Rows) (removal : Removal) (
   abbrev q : ℕ
   q = removal .point
 
-  -- a step that reads, and goes on at a stage before the list is fed
-  on-stage : (read : ReadAccess) (stage : RemovalStage) → fedAt (removal .stage) ≡ 0 → fedAt stage ≡ 0 → RemovalOK m k (panel .reach) slots rows q stage → StepOK panel slots (Read read) (removalAt removal stage Nothing) rows (removeRow m k q rows) (Removing removal)
-  unfolding storesSlot slotsAfter removalAt isIdle updated begun
-  on-stage read stage before after h = goes-on refl before after refl refl refl refl (record { agrees = agrees; work = h })
+  -- a step that reads leaves the record, and goes on at a stage before the list is fed
+  on-stage : (read : ReadAccess) (stage : RemovalStage) (update : Update) → updated panel update ≡ panel → fedAt (removal .stage) ≡ 0 → fedAt stage ≡ 0 → RemovalOK m k (panel .reach) slots rows q stage → StepOK panel slots (Read read) (removalAt removal stage update) rows (removeRow m k q rows) (Removing removal)
+  unfolding storesSlot slotsAfter removalAt isIdle begun
+  on-stage read stage update same before after h =
+      goes-on refl before after refl refl refl (ap (λ (p : Record). p .stations) same)
+      (record {
+        agrees = subst (λ (p : Record). Agrees m k (p .reach) (p .counts) slots rows) (sym same) agrees;
+        work = subst (λ (p : Record). RemovalOK m k (p .reach) slots rows q stage) (sym same) h;
+      })
 
   searched : (read : ReadAccess) (after : Searched) → fedAt (removal .stage) ≡ 0 → Tight m k (panel .reach) rows → Knows (entryOf q rows ≡ absent) m k q rows after → StepOK panel slots (Read read) (removalSearched removal after) rows (removeRow m k q rows) (Removing removal)
   unfolding removalSearched removalAnswered removeRow removeEntry ends isWriterEnd slotsAfter updated
-  searched read (Going search) unfed tight h = on-stage read (Searching search) unfed refl (h, tight)
-  searched read (Answered (SearchAnswer·Found place)) unfed tight h = on-stage read (RemovalStage·Found place) unfed refl (standing m k q rows place h, tight)
+  searched read (Going search) unfed tight h = on-stage read (Searching search) _ refl unfed refl (h, tight)
+  searched read (Answered (SearchAnswer·Found place)) unfed tight h = on-stage read (RemovalStage·Found place) _ refl unfed refl (standing m k q rows place h, tight)
   searched read (Answered Unknown) unfed tight h =
       let told : removeRow m k q rows ≡ tells rows (endedWith 7) = rw h in
       subst (λ t. StepOK panel slots (Read read) (ends Nothing (endedWith 7)) rows t (Removing removal)) (sym told)

@@ -2,7 +2,7 @@
 -- a step reads one of the slots lent.
 -- Assumes nothing.
 use Prim.Native.Nat.{ℕ, _+_, _-_, _≤_, _<_}
-use mathlib.Core.Path.{_≡_, refl}
+use mathlib.Core.Path.{_≡_, refl, sym, subst}
 use mathlib.Core.Bool.{Bool, true, false, cond}
 use native.Mathlib.Omega.{arith}
 use borrow.Author.Tests.{ltb-true, leb-true, le-leb, eqb-false}
@@ -83,17 +83,28 @@ next-step k probe h = go (ltb (probe .next) (probe .reach)) refl
         record { fits = probing k (probe .reach) (probe .next + 1) (reach-high k probe h) (omega arith) (omega arith); less = omega arith }
     go false e = record { fits = refl; less = omega arith }
 
+-- a position that shows the point ends the search there
+pub probe-hits : (point : ℕ) (probe : Probe) (word : ℕ) → eqb (pointOf word) point ≡ true → probeAdvance point probe word ≡ Answered (Found (record { index = probe .next; value = valueOf word }))
+unfolding probeAdvance
+probe-hits point probe word e = rw e
+
+-- any other leads to the next, an empty one too: "removals leave holes"
+pub probe-misses : (point : ℕ) (probe : Probe) (word : ℕ) → eqb (pointOf word) point ≡ false → probeAdvance point probe word ≡ nextProbe probe
+unfolding probeAdvance
+probe-misses point probe word e = rw e
+
 pub probe-step : (k point : ℕ) (probe : Probe) (word : ℕ) → searchInRange k (Probing probe) ≡ true → OneStep k (probe .reach - probe .next + 1) (probeAdvance point probe word)
-unfolding probeAdvance searchedInRange answerInRange searchedLeft
-probe-step k point probe word h = go (eqb (pointOf word) point)
+unfolding searchedInRange answerInRange searchedLeft
+probe-step k point probe word h = go (eqb (pointOf word) point) refl
   where
-    go : (b : Bool) → OneStep k (probe .reach - probe .next + 1) (cond b (Answered (Found (record { index = probe .next; value = valueOf word }))) (nextProbe probe))
-    go true =
-        record {
+    go : (b : Bool) → eqb (pointOf word) point ≡ b → OneStep k (probe .reach - probe .next + 1) (probeAdvance point probe word)
+    go true e =
+        subst (OneStep k (probe .reach - probe .next + 1)) (sym (probe-hits point probe word e))
+        (record {
           fits = is-within 1 (probe .next) k (next-low k probe h) (omega (arith, next-high k probe h, reach-high k probe h));
           less = omega arith;
-        }
-    go false = next-step k probe h
+        })
+    go false e = subst (OneStep k (probe .reach - probe .next + 1)) (sym (probe-misses point probe word e)) (next-step k probe h)
 
 pub search-step : (k reach point : ℕ) (search : Search) (word : ℕ) → reach ≤ k → searchInRange k search ≡ true → OneStep k (searchLeft k search) (searchAdvance reach point search word)
 unfolding searchAdvance searchLeft

@@ -7,7 +7,7 @@ use mathlib.Core.Path.{_≡_, refl, sym, ap, subst, _∙_}
 use mathlib.Core.Logic.{_⊎_, inl, inr, _≢_}
 use mathlib.Core.List.{List}
 use native.Mathlib.Omega.{arith}
-use borrow.Author.Tests.{eqb-true, eqb-false, ltb-true, ltb-false}
+use borrow.Author.Tests.{eqb-true, eqb-false, ltb-false}
 use lib.Dec.{eqb, ltb}
 use lib.ListN.{getD}
 use Rattle.hash.specs.Position.{positionOf}
@@ -28,7 +28,7 @@ use Rattle.search.specs.declared.SearchAnswer.{SearchAnswer}
 use Rattle.search.specs.declared.SearchAnswer.the-variants.{Found, Unknown}
 use Rattle.search.specs.Access.{wordRead}
 use Rattle.search.specs.Search.{searchAccess, firstProbe, nextProbe, probeAdvance, searchAdvance}
-use Rattle.search.proofs.SearchLaws.{next-low}
+use Rattle.search.proofs.SearchLaws.{next-low, probe-hits, probe-misses}
 
 -- the point's row is at an index between these two
 pub record Ahead (m k q : ℕ) (rows : Rows) (from to : ℕ) : Type 0 where
@@ -131,15 +131,17 @@ module _ (F : Type 0) (m k reach : ℕ) (counts slots : List ℕ) (rows : Rows) 
       go false e = let past = ltb-false (probe .next) (probe .reach) e in none-ahead (probe .next + 1) (probe .reach) (omega arith) ahead
 
   probe-knows : (probe : Probe) → 1 ≤ probe .next → F ⊎ Ahead m k q rows (probe .next) (probe .reach) → Knows F m k q rows (probeAdvance q probe (word-of probe))
-  unfolding probeAdvance
   probe-knows probe from ahead = go (eqb (pointOf (word-of probe)) q) refl
     where
-      go : (b : Bool) → eqb (pointOf (word-of probe)) q ≡ b → Knows F m k q rows (cond b (Answered (Found (record { index = probe .next; value = valueOf (word-of probe) }))) (nextProbe probe))
+      go : (b : Bool) → eqb (pointOf (word-of probe)) q ≡ b → Knows F m k q rows (probeAdvance q probe (word-of probe))
       go true e =
           let inside = position-below m q (probe .next) (agrees .some-slot) in
           let here = shown-row m k reach counts slots rows agrees q (positionOf m q (probe .next)) low inside (eqb-true (pointOf (word-of probe)) q e) in
-          record { found = here; lowest = hit-lowest probe (valueOf (word-of probe)) from here ahead }
-      go false e = next-knows probe (passed probe (eqb-false (pointOf (word-of probe)) q e) ahead)
+          subst (Knows F m k q rows) (sym (probe-hits q probe (word-of probe) e))
+          (record { found = here; lowest = hit-lowest probe (valueOf (word-of probe)) from here ahead })
+      go false e =
+          subst (Knows F m k q rows) (sym (probe-misses q probe (word-of probe) e))
+          (next-knows probe (passed probe (eqb-false (pointOf (word-of probe)) q e) ahead))
 
   -- a search's own step
   pub search-knows : (search : Search) → searchInRange k search ≡ true → Trail F m k q rows search → Knows F m k q rows (searchAdvance reach q search (wordRead slots (searchAccess m q search)))

@@ -3,7 +3,6 @@ mod commands;
 mod disabled;
 mod frames;
 mod fresh;
-mod history;
 mod operations;
 mod printing;
 mod ranges;
@@ -30,7 +29,6 @@ fn main() {
     writing::run();
     writer_refusals::run();
     unreached::run();
-    history::run();
 }
 
 // The published check z(10000), and the table's first six values.

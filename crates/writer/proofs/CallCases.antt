@@ -9,7 +9,6 @@ use mathlib.Core.Logic.{_≢_}
 use native.Mathlib.Omega.{arith}
 use lib.ListN.{length}
 use Rattle.refusal.specs.Judging.{refuseIf}
-use Rattle.refusal.proofs.Laws.{both-true}
 use Rattle.record.specs.declared.Record.{Record}
 use Rattle.record.specs.declared.WriterWork.{WriterWork}
 use Rattle.record.specs.Parts.{withWriter}
@@ -22,11 +21,11 @@ use Rattle.writer.specs.Starts.{startRefusal, startWriter}
 use Rattle.writer.specs.Step.{stepRefusal, writerRuns, stepWriter}
 
 pub data Began (panel : Record) (slots : List ℕ) (work : WriterWork) : Outcome → Type 0 where
-  start-refused : (n : ℕ) → n ≢ 1 → Began panel slots work (outcome panel slots (refused n))
+  refuses-start : (n : ℕ) → n ≢ 1 → Began panel slots work (outcome panel slots (refused n))
   begins : isIdle (panel .writer) ≡ true → inRange (length slots) (withWriter panel work) ≡ true → Began panel slots work (outcome (withWriter panel work) slots started)
 
 pub data Stepped (panel : Record) (slots : List ℕ) : Outcome → Type 0 where
-  step-refused : (n : ℕ) → n ≢ 1 → Stepped panel slots (outcome panel slots (refused n))
+  refuses-step : (n : ℕ) → n ≢ 1 → Stepped panel slots (outcome panel slots (refused n))
   runs : isIdle (panel .writer) ≡ false → Stepped panel slots (writerRuns panel slots (panel .writer))
 
 module _ (panel : Record) (slots : List ℕ) (fits : inRange (length slots) panel ≡ true) where
@@ -36,8 +35,8 @@ module _ (panel : Record) (slots : List ℕ) (fits : inRange (length slots) pane
   began point work ranged = rw fits (go (validPoint point) refl (isIdle (panel .writer)) refl)
     where
       go : (valid : Bool) → validPoint point ≡ valid → (idle : Bool) → isIdle (panel .writer) ≡ idle → Began panel slots work (unlessRefused (refuseIf (not valid) 2 (refuseIf (not idle) 4 0)) panel slots (outcome (withWriter panel work) slots started))
-      go false e idle f = start-refused 2 (omega arith)
-      go true e false f = start-refused 4 (omega arith)
+      go false e idle f = refuses-start 2 (omega arith)
+      go true e false f = refuses-start 4 (omega arith)
       go true e true f = begins f (with-writer-in-range (length slots) panel fits work (ranged e))
 
   pub stepped : Stepped panel slots (stepWriter panel slots)
@@ -45,5 +44,5 @@ module _ (panel : Record) (slots : List ℕ) (fits : inRange (length slots) pane
   stepped = rw fits (go (isIdle (panel .writer)) refl)
     where
       go : (idle : Bool) → isIdle (panel .writer) ≡ idle → Stepped panel slots (unlessRefused (refuseIf idle 5 0) panel slots (writerRuns panel slots (panel .writer)))
-      go true e = step-refused 5 (omega arith)
+      go true e = refuses-step 5 (omega arith)
       go false e = runs e

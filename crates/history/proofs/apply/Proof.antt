@@ -14,8 +14,8 @@ enum-known-call c = search needs
 start-lookup-requires : tie.Need-start-lookup-requires
 start-lookup-requires c κs = search needs
 
-of-start-requires : tie.Need-of-start-requires
-of-start-requires c κs = search needs
+started-requires : tie.Need-started-requires
+started-requires c κs = search needs
 
 enum-known-call-2 : tie.Need-enum-known-call-2
 enum-known-call-2 c = search needs
@@ -23,8 +23,8 @@ enum-known-call-2 c = search needs
 start-walk-requires : tie.Need-start-walk-requires
 start-walk-requires c κs = search needs
 
-of-start-requires-2 : tie.Need-of-start-requires-2
-of-start-requires-2 c κs = search needs
+started-requires-2 : tie.Need-started-requires-2
+started-requires-2 c κs = search needs
 
 enum-known-call-3 : tie.Need-enum-known-call-3
 enum-known-call-3 c = search needs
@@ -32,8 +32,8 @@ enum-known-call-3 c = search needs
 step-reader-requires : tie.Need-step-reader-requires
 step-reader-requires c κs = search needs
 
-of-reader-requires : tie.Need-of-reader-requires
-of-reader-requires c κs = search needs
+read-requires : tie.Need-read-requires
+read-requires c κs = search needs
 
 enum-known-call-4 : tie.Need-enum-known-call-4
 enum-known-call-4 c = search needs
@@ -41,8 +41,8 @@ enum-known-call-4 c = search needs
 start-put-requires : tie.Need-start-put-requires
 start-put-requires c κs = search needs
 
-of-start-requires-3 : tie.Need-of-start-requires-3
-of-start-requires-3 c κs = search needs
+started-requires-3 : tie.Need-started-requires-3
+started-requires-3 c κs = search needs
 
 enum-known-call-5 : tie.Need-enum-known-call-5
 enum-known-call-5 c = search needs
@@ -50,8 +50,8 @@ enum-known-call-5 c = search needs
 start-change-requires : tie.Need-start-change-requires
 start-change-requires c κs = search needs
 
-of-start-requires-4 : tie.Need-of-start-requires-4
-of-start-requires-4 c κs = search needs
+started-requires-4 : tie.Need-started-requires-4
+started-requires-4 c κs = search needs
 
 enum-known-call-6 : tie.Need-enum-known-call-6
 enum-known-call-6 c = search needs
@@ -59,8 +59,8 @@ enum-known-call-6 c = search needs
 start-removal-requires : tie.Need-start-removal-requires
 start-removal-requires c κs = search needs
 
-of-start-requires-5 : tie.Need-of-start-requires-5
-of-start-requires-5 c κs = search needs
+started-requires-5 : tie.Need-started-requires-5
+started-requires-5 c κs = search needs
 
 enum-told : tie.Need-enum-told
 enum-told c = search needs
@@ -68,8 +68,8 @@ enum-told c = search needs
 start-command-requires : tie.Need-start-command-requires
 start-command-requires c κs = search needs
 
-of-entry-requires : tie.Need-of-entry-requires
-of-entry-requires c κs = search needs
+entered-requires : tie.Need-entered-requires
+entered-requires c κs = search needs
 
 enum-told-2 : tie.Need-enum-told-2
 enum-told-2 c = search needs
@@ -77,8 +77,8 @@ enum-told-2 c = search needs
 step-writer-requires : tie.Need-step-writer-requires
 step-writer-requires c κs = search needs
 
-of-writer-requires : tie.Need-of-writer-requires
-of-writer-requires c κs = search needs
+written-requires : tie.Need-written-requires
+written-requires c κs = search needs
 
 same-length : tie.Need-same-length
 same-length c = search needs
@@ -87,7 +87,7 @@ returns : tie.Need-returns
 unfolding applied
 returns c =
     let a = c .before .before .before .before .before .before .before .before .args in
-    c .of-start .ensures (now (a .slots))
+    c .started .ensures (now (a .slots))
     ∙ c .before .start-lookup .ensures
     ∙ sym (ap (λ (call : Call). applied (a .panel) (now (a .slots)) call (now (a .frame))) (c .before .before .before .before .call .given .1))
 
@@ -98,7 +98,7 @@ returns-2 : tie.Need-returns-2
 unfolding applied
 returns-2 c =
     let a = c .before .before .before .before .before .before .before .before .args in
-    c .of-start2 .ensures (now (a .slots))
+    c .started2 .ensures (now (a .slots))
     ∙ c .before .start-walk .ensures
     ∙ sym (ap (λ (call : Call). applied (a .panel) (now (a .slots)) call (now (a .frame))) (c .before .before .before .before .call2 .given .1))
 
@@ -109,7 +109,7 @@ returns-3 : tie.Need-returns-3
 unfolding applied
 returns-3 c =
     let a = c .before .before .before .before .before .before .before .before .args in
-    c .of-reader .ensures (now (a .slots))
+    c .read .ensures (now (a .slots))
     ∙ c .before .step-reader .ensures
     ∙ sym (ap (λ (call : Call). applied (a .panel) (now (a .slots)) call (now (a .frame))) (c .before .before .before .before .call3 .given .1))
 
@@ -120,7 +120,7 @@ returns-4 : tie.Need-returns-4
 unfolding applied
 returns-4 c =
     let a = c .before .before .before .before .before .before .before .before .args in
-    c .of-start3 .ensures (now (a .slots))
+    c .started3 .ensures (now (a .slots))
     ∙ c .before .start-put .ensures
     ∙ sym (ap (λ (call : Call). applied (a .panel) (now (a .slots)) call (now (a .frame))) (c .before .before .before .before .call4 .given .1))
 
@@ -131,7 +131,7 @@ returns-5 : tie.Need-returns-5
 unfolding applied
 returns-5 c =
     let a = c .before .before .before .before .before .before .before .before .args in
-    c .of-start4 .ensures (now (a .slots))
+    c .started4 .ensures (now (a .slots))
     ∙ c .before .start-change .ensures
     ∙ sym (ap (λ (call : Call). applied (a .panel) (now (a .slots)) call (now (a .frame))) (c .before .before .before .before .call5 .given .1))
 
@@ -142,7 +142,7 @@ returns-6 : tie.Need-returns-6
 unfolding applied
 returns-6 c =
     let a = c .before .before .before .before .before .before .before .before .args in
-    c .of-start5 .ensures (now (a .slots))
+    c .started5 .ensures (now (a .slots))
     ∙ c .before .start-removal .ensures
     ∙ sym (ap (λ (call : Call). applied (a .panel) (now (a .slots)) call (now (a .frame))) (c .before .before .before .before .call6 .given .1))
 
@@ -153,7 +153,7 @@ returns-7 : tie.Need-returns-7
 unfolding applied
 returns-7 c =
     let a = c .before .before .before .before .before .before .before .args in
-    c .of-entry .ensures (now (a .slots))
+    c .entered .ensures (now (a .slots))
     ∙ c .before .start-command .ensures
     ∙ sym (ap (λ (call : Call). applied (a .panel) (now (a .slots)) call (now (a .frame))) (c .before .before .before .enum-told .given .1))
 
@@ -164,7 +164,7 @@ returns-8 : tie.Need-returns-8
 unfolding applied
 returns-8 c =
     let a = c .before .before .before .before .before .before .before .before .before .args in
-    c .of-writer .ensures _
+    c .written .ensures _
     ∙ c .before .before .before .step-writer .ensures
     ∙ sym (ap (λ (call : Call). applied (a .panel) (now (a .slots)) call (now (a .frame))) (c .before .before .before .before .before .enum-told2 .given .1))
 
@@ -174,28 +174,28 @@ apply-spec =
     (tie.spec
     enum-known-call
     start-lookup-requires
-    of-start-requires
+    started-requires
     enum-known-call-2
     start-walk-requires
-    of-start-requires-2
+    started-requires-2
     enum-known-call-3
     step-reader-requires
-    of-reader-requires
+    read-requires
     enum-known-call-4
     start-put-requires
-    of-start-requires-3
+    started-requires-3
     enum-known-call-5
     start-change-requires
-    of-start-requires-4
+    started-requires-4
     enum-known-call-6
     start-removal-requires
-    of-start-requires-5
+    started-requires-5
     enum-told
     start-command-requires
-    of-entry-requires
+    entered-requires
     enum-told-2
     step-writer-requires
-    of-writer-requires
+    written-requires
     same-length
     returns
     same-length-2

@@ -4,7 +4,7 @@ use mathlib.Core.Path.{_∙_, ap}
 use borrow.Author.Tests.{lt-ltb, le-ltb}
 use borrow.Author.Needs.{needs}
 use Rattle.moves.specs.Memory.{storeWord}
-use Rattle.put.specs.Put.{putAccess, putStageAccess}
+use Rattle.put.specs.Put.{exceeds, putAccess, putStageAccess}
 use Rattle.put.proofs.put_access.Statement.{statement}
 use Rattle.put.proofs.put_access.Tie as tie
 
@@ -54,11 +54,11 @@ returns-3 c =
     (c .store-word .ensures ∙ ap (storeWord (a .m) (a .put .point) (c .before .before .stage3 .given .0 .0 .index)) (c .before .before .before .before .word-of .ensures))
 
 returns-4 : tie.Need-returns-4
-unfolding putAccess putStageAccess
+unfolding exceeds putAccess putStageAccess
 returns-4 c = rw (c .before .before .stage4 .given .1, lt-ltb _ _ (c .if1 .taken))
 
 returns-5 : tie.Need-returns-5
-unfolding putAccess putStageAccess
+unfolding exceeds putAccess putStageAccess
 returns-5 c =
     let a = c .before .before .before .before .before .before .args in
     rw (c .before .before .before .stage4 .given .1, le-ltb _ _ (c .before .if1 .left))

@@ -7,7 +7,7 @@ use borrow.Author.Needs.{needs}
 use Rattle.answers.specs.Answers.{placed}
 use Rattle.moves.specs.declared.update.Update.the-variants.{Counted}
 use Rattle.moves.specs.Moves.{ends}
-use Rattle.put.specs.Put.{putTakes}
+use Rattle.put.specs.Put.{exceeds, putTakes}
 use Rattle.put.proofs.put_takes.Statement.{statement}
 use Rattle.put.proofs.put_takes.Tie as tie
 
@@ -15,7 +15,7 @@ use Rattle.put.proofs.put_takes.Tie as tie
 -- Assumes nothing.
 
 returns : tie.Need-returns
-unfolding putTakes
+unfolding exceeds putTakes
 returns c = rw (lt-ltb _ _ (c .if1 .taken))
 
 position-requires : tie.Need-position-requires
@@ -25,7 +25,7 @@ ended-requires : tie.Need-ended-requires
 ended-requires c κs = search needs
 
 returns-2 : tie.Need-returns-2
-unfolding putTakes
+unfolding exceeds putTakes
 returns-2 c =
     let i = c .before .before .before .args .index in
     rw (le-ltb _ _ (c .before .before .if1 .left))

@@ -1,26 +1,26 @@
--- `vectors::history::parts` ends: it counts up to part 12.
+-- `call_vectors::drawn_history::run` ends: it counts up to part 50.
 -- Assumes nothing.
 use Prim.Native.Nat.{_-_, _≤_}
 use mathlib.Core.Path.{_≡_}
 use borrow.Author.Needs.{needs}
 use lib.ListN.{length}
-use Rattle.vectors.proofs.history.parts.Statement.{statement}
-use Rattle.vectors.proofs.history.parts.Tie as tie
+use Rattle.call_vectors.proofs.drawn_history.run.Statement.{statement}
+use Rattle.call_vectors.proofs.drawn_history.run.Tie as tie
 
 abbrev Inv-loop : tie.InvT-loop
-Inv-loop slots₀ now₀ part₀ slots now part = (part ≤ 13) × (length slots ≡ length slots₀)
+Inv-loop slots₀ points drawn now₀ part₀ slots now part = (part ≤ 51) × (length slots ≡ length slots₀)
 
 abbrev μ-loop : tie.MeasureT-loop
-μ-loop slots₀ now₀ part₀ slots now part = 13 - part
+μ-loop slots₀ points drawn now₀ part₀ slots now part = 51 - part
 
-fresh-record-requires : tie.Need-fresh-record-requires Inv-loop μ-loop
-fresh-record-requires c κs = search needs
+empty-requires : tie.Need-empty-requires Inv-loop μ-loop
+empty-requires c κs = search needs
 
 loop-holds : tie.Need-loop-holds Inv-loop μ-loop
 loop-holds c = search needs
 
-calls-requires : tie.Need-calls-requires Inv-loop μ-loop
-calls-requires c κs = search needs
+hundred-requires : tie.Need-hundred-requires Inv-loop μ-loop
+hundred-requires c κs = search needs
 
 mul-report : tie.Need-mul-report Inv-loop μ-loop
 mul-report c = search needs
@@ -43,15 +43,15 @@ same-length c = search needs
 returns : tie.Need-returns Inv-loop μ-loop
 returns c = search needs
 
-pub parts-spec : {M : Type 1} → statement M
-parts-spec =
+pub run-spec : {M : Type 1} → statement M
+run-spec =
     tie.close
     (tie.spec
     Inv-loop
     μ-loop
-    fresh-record-requires
+    empty-requires
     loop-holds
-    calls-requires
+    hundred-requires
     mul-report
     report-requires
     add-part

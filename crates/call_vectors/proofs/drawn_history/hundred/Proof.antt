@@ -1,17 +1,20 @@
--- `vectors::history::calls` ends: it counts up to the number asked for.
+-- `call_vectors::drawn_history::hundred` ends: it makes 100 calls.
 -- Assumes nothing.
 use Prim.Native.Nat.{_-_, _≤_}
 use mathlib.Core.Path.{_≡_}
 use borrow.Author.Needs.{needs}
 use lib.ListN.{length}
-use Rattle.vectors.proofs.history.calls.Statement.{statement}
-use Rattle.vectors.proofs.history.calls.Tie as tie
+use Rattle.call_vectors.proofs.drawn_history.hundred.Statement.{statement}
+use Rattle.call_vectors.proofs.drawn_history.hundred.Tie as tie
 
 abbrev Inv-loop : tie.InvT-loop
-Inv-loop slots₀ count now₀ counter₀ slots now counter = (counter ≤ count) × (length slots ≡ length slots₀)
+Inv-loop slots₀ points now₀ counter₀ slots now counter = (counter ≤ 100) × (length slots ≡ length slots₀)
 
 abbrev μ-loop : tie.MeasureT-loop
-μ-loop slots₀ count now₀ counter₀ slots now counter = count - counter
+μ-loop slots₀ points now₀ counter₀ slots now counter = 100 - counter
+
+empty-requires : tie.Need-empty-requires Inv-loop μ-loop
+empty-requires c κs = search needs
 
 loop-holds : tie.Need-loop-holds Inv-loop μ-loop
 loop-holds c = search needs
@@ -34,12 +37,13 @@ same-length c = search needs
 returns : tie.Need-returns Inv-loop μ-loop
 returns c = search needs
 
-pub calls-spec : {M : Type 1} → statement M
-calls-spec =
+pub hundred-spec : {M : Type 1} → statement M
+hundred-spec =
     tie.close
     (tie.spec
     Inv-loop
     μ-loop
+    empty-requires
     loop-holds
     call-requires
     add-counter

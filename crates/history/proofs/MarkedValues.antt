@@ -1,0 +1,40 @@
+-- Document 01's marked values follow from the definitions: both sides of each row of the table compute to the same. Assumes nothing.
+use mathlib.Core.Path.{refl}
+use Rattle.refusal.specs.Judging.{both, either, within, outside, refuseIf}
+use Rattle.hash.specs.Position.{z, positionOf}
+use Rattle.slot_words.specs.Taken.{takenSlots}
+use Rattle.record.specs.Parts.{freshRecord, workOf, withWork, withWriter, withReach, numbered, withNumbered, countOf, withCount}
+use Rattle.work_ranges.specs.WorkRanges.{validPoint, searchInRange, lookupInRange, workInRange, putStageInRange, putInRange, removalStageInRange, removalInRange, writerInRange}
+use Rattle.record_ranges.specs.Ranges.{all, sizesInRange, countsInRange, readerInRange, readersInRange, stationInRange, stationsInRange, inRange}
+use Rattle.answers.specs.Answers.{isUnderway, unlessRefused}
+use Rattle.plain_list.specs.PlainList.{Each}
+use Rattle.search.specs.Access.{wordRead}
+use Rattle.search.specs.Search.{searchAccess, firstProbe, nextProbe, probeAdvance, searchAdvance}
+use Rattle.reader_step.specs.Reader.{isIdle as Reader·isIdle, readerAccess, lookupAnswer, lookupMove, lookupAdvance, readerAdvance, stepRefusal as Reader·stepRefusal, moved as Reader·moved, readerRuns, stepReader}
+use Rattle.table.specs.FreshPanel.{makeFresh}
+use Rattle.table.specs.Starts.{lookupRefusal, startReader, startLookup}
+use Rattle.moves.specs.Memory.{storeWord, accessRead, slotsAfter}
+use Rattle.moves.specs.Counts.{counted, uncounted}
+use Rattle.moves.specs.Moves.{isIdle, goesOn, ends, updated}
+use Rattle.put.specs.Put.{exceeds, putStageAccess, putAccess, putAt, putAnswered, putSearched, putScanned, putTakes, putStageAdvance, putAdvance}
+use Rattle.removal.specs.Removal.{removalStageAccess, removalAccess, removalAt, removalAnswered, removalSearched, isLast, removalEmpties, removalStageAdvance, removalAdvance}
+use Rattle.writer.specs.Step.{writerAccess, writerAdvance, stepRefusal, moved, writerRuns, stepWriter}
+use Rattle.writer.specs.Starts.{startRefusal, startWriter, startPut, startChange, startRemoval}
+use Rattle.whole_operations.specs.Whole.{untilEnded, readerStep, writerStep, wholeLookup, wholePut, wholeRemoval}
+use Rattle.frame.specs.FieldMap.{hasBit, start, bigEndian, allowed}
+use Rattle.frame.specs.Frames.{fieldIn, judged, readRefusal, handed, readFrame}
+use Rattle.history.specs.Calls.{applied}
+use Rattle.history.specs.Marked.{Agrees, runLine, run, answersOf, fresh, onlyPoint1, sample, answerTo, startsOf, markedValues}
+
+pub marked : Each Agrees markedValues
+unfolding both either within outside refuseIf z positionOf takenSlots freshRecord workOf withWork withWriter withReach numbered withNumbered countOf
+    withCount validPoint searchInRange lookupInRange workInRange putStageInRange putInRange removalStageInRange removalInRange writerInRange all
+    sizesInRange countsInRange readerInRange readersInRange stationInRange stationsInRange inRange isUnderway unlessRefused wordRead searchAccess
+    firstProbe nextProbe probeAdvance searchAdvance Reader·isIdle readerAccess lookupAnswer lookupMove lookupAdvance readerAdvance Reader·stepRefusal
+    Reader·moved readerRuns stepReader makeFresh lookupRefusal startReader startLookup storeWord accessRead slotsAfter counted uncounted isIdle goesOn
+    ends updated exceeds putStageAccess putAccess putAt putAnswered putSearched putScanned putTakes putStageAdvance putAdvance removalStageAccess
+    removalAccess removalAt removalAnswered removalSearched isLast removalEmpties removalStageAdvance removalAdvance writerAccess writerAdvance
+    stepRefusal moved writerRuns stepWriter startRefusal startWriter startPut startChange startRemoval untilEnded readerStep writerStep wholeLookup
+    wholePut wholeRemoval hasBit start bigEndian allowed fieldIn judged readRefusal handed readFrame applied runLine run answersOf fresh onlyPoint1
+    sample answerTo startsOf markedValues
+marked = (refl, (refl, (refl, (refl, (refl, (refl, (refl, (refl, (refl, (refl, (refl, (refl, (refl, (refl, (refl, (refl, (refl, tt)))))))))))))))))

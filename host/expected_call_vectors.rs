@@ -1,0 +1,86 @@
+//! What the program `call_vectors` has to print, worked out a second time from document 01: the
+//! stored output is compared with this.
+
+mod expected_digest;
+mod expected_draws;
+mod reference_calls;
+mod reference_command;
+mod reference_record;
+mod reference_writer;
+
+// Frames are only read here.
+#[allow(dead_code)]
+mod reference_frame;
+// Disabled points are no call of a history.
+#[allow(dead_code)]
+mod reference_table;
+
+use expected_digest::Digest;
+use expected_draws::{Draws, Generator};
+use reference_calls::apply;
+use reference_record::{Record, Station};
+use reference_table::fresh;
+
+const LINES: u32 = 50;
+const CALLS_BETWEEN_LINES: u32 = 100;
+
+struct Panel {
+    record: Record,
+    slots: Vec<u64>,
+    /// Most points are one of so many.
+    points: u32,
+}
+
+impl Panel {
+    fn fresh(m: u32, k: u32, points: u32) -> Self {
+        println!("panel {m} {k}");
+        let mut slots = vec![0; m as usize];
+        let (_, record) = fresh(&mut slots, m, k);
+        Panel {
+            record,
+            slots,
+            points,
+        }
+    }
+
+    fn run(mut self, generator: &mut Generator) {
+        for line in 1..=LINES {
+            let mut digest = Digest::new();
+            for _ in 0..CALLS_BETWEEN_LINES {
+                self.call(generator, &mut digest);
+            }
+            self.report(line * CALLS_BETWEEN_LINES, &digest);
+        }
+    }
+
+    fn call(&mut self, generator: &mut Generator, digest: &mut Digest) {
+        let draws = Draws::new(generator, self.points);
+        let frame = draws.frame(&self.record);
+        let answer = apply(&mut self.record, &mut self.slots, draws.call(), &frame);
+        digest.add_answer(answer);
+        digest.add_state(&self.record, &self.slots);
+    }
+
+    fn report(&self, made: u32, digest: &Digest) {
+        let Digest { first, second } = digest;
+        let reach = self.record.reach;
+        let taken = self.slots.iter().filter(|&&word| word != 0).count();
+        println!("calls {made}: digest {first} {second} reach {reach} taken {taken}");
+    }
+}
+
+fn main() {
+    let mut generator = Generator(1);
+    let mut one_slot = Panel::fresh(1, 3, 2);
+    // Ten numbers are left to station 4.
+    one_slot.record.stations[3] = Station {
+        number: 16_777_205,
+        point: 1,
+        action: 0,
+        answer: None,
+    };
+    one_slot.run(&mut generator);
+    Panel::fresh(8, 4, 6).run(&mut generator);
+    Panel::fresh(16, 16, 24).run(&mut generator);
+    Panel::fresh(64, 16, 64).run(&mut generator);
+}

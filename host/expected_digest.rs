@@ -1,0 +1,170 @@
+//! The digest of `call_vectors`: every number of the answers, the slots and the record, in two
+//! checksums.
+
+use crate::reference_calls::Answer;
+use crate::reference_command::Entry;
+use crate::reference_record::{
+    Alteration, ChangeStage, Place, PutStage, Reader, Record, RemovalStage, Search, Station, Writer,
+};
+use crate::reference_table::{point_of, value_of, Step};
+use crate::reference_writer::WriterStep;
+
+pub struct Digest {
+    pub first: u64,
+    pub second: u64,
+}
+
+impl Digest {
+    pub fn new() -> Self {
+        Digest {
+            first: 1,
+            second: 1,
+        }
+    }
+
+    fn add(&mut self, numbers: &[u32]) {
+        for &number in numbers {
+            self.first = (self.first * 16807 + u64::from(number)) % 2_147_483_647;
+            self.second = (self.second * 48271 + u64::from(number)) % 4_294_967_291;
+        }
+    }
+
+    pub fn add_answer(&mut self, answer: Answer) {
+        self.add(&answer_numbers(answer));
+    }
+
+    pub fn add_state(&mut self, record: &Record, slots: &[u64]) {
+        for &word in slots {
+            self.add(&[point_of(word), value_of(word)]);
+        }
+        self.add(&[record.m, record.k, record.reach]);
+        self.add(&record.counts);
+        self.add(&writer_numbers(record.writer));
+        for &reader in &record.readers {
+            self.add(&reader_numbers(reader));
+        }
+        for &station in &record.stations {
+            self.add(&station_numbers(station));
+        }
+    }
+}
+
+/// The case and what it carries. The cases are numbered behind the refusals.
+fn answer_numbers(answer: Answer) -> Vec<u32> {
+    match answer {
+        Answer::Start(Ok(())) | Answer::Entry(Ok(Entry::Started)) => vec![15],
+        Answer::Entry(Ok(Entry::GivenAgain(stored))) => [vec![16], kept_numbers(stored)].concat(),
+        Answer::Reader(Ok(step)) => reader_step_numbers(step),
+        Answer::Writer(Ok(step)) => writer_step_numbers(step),
+        Answer::Start(Err(refusal))
+        | Answer::Entry(Err(refusal))
+        | Answer::Reader(Err(refusal))
+        | Answer::Writer(Err(refusal)) => vec![refusal],
+    }
+}
+
+fn reader_step_numbers(step: Step) -> Vec<u32> {
+    match step {
+        Step::Underway => vec![17],
+        Step::Found(value) => vec![18, value],
+        Step::Unknown => vec![23],
+        Step::Word(word) => vec![24, point_of(word), value_of(word)],
+        Step::LastWord(word) => vec![25, point_of(word), value_of(word)],
+    }
+}
+
+fn writer_step_numbers(step: WriterStep) -> Vec<u32> {
+    match step {
+        WriterStep::Underway => vec![17],
+        WriterStep::Put { slot, index } => vec![19, slot, index],
+        WriterStep::Changed(value) => vec![20, value],
+        WriterStep::Removed(reach) => vec![21, reach],
+        WriterStep::NoPerch => vec![22],
+        WriterStep::Unknown => vec![23],
+    }
+}
+
+/// A command's answer.
+fn kept_numbers(answer: Option<u32>) -> Vec<u32> {
+    match answer {
+        Some(value) => vec![0, value],
+        None => vec![1],
+    }
+}
+
+fn station_numbers(last: Station) -> Vec<u32> {
+    let command = vec![last.number, last.point, last.action];
+    [command, kept_numbers(last.answer)].concat()
+}
+
+fn reader_numbers(work: Reader) -> Vec<u32> {
+    match work {
+        Reader::Idle => vec![0],
+        Reader::LookingUp { point, search } => [vec![1, point], search_numbers(search)].concat(),
+        Reader::Walking { next } => vec![2, next],
+    }
+}
+
+fn search_numbers(search: Search) -> Vec<u32> {
+    match search {
+        Search::Unread => vec![0],
+        Search::Probing { reach, next } => vec![1, reach, next],
+    }
+}
+
+fn writer_numbers(work: Writer) -> Vec<u32> {
+    match work {
+        Writer::Idle => vec![0],
+        Writer::Putting {
+            point,
+            value,
+            stage,
+        } => [vec![1, point, value], put_stage_numbers(stage)].concat(),
+        Writer::Changing {
+            point,
+            alteration,
+            stage,
+        } => {
+            let change = [vec![2, point], alteration_numbers(alteration)].concat();
+            [change, change_stage_numbers(stage)].concat()
+        }
+        Writer::Removing { point, stage } => {
+            [vec![3, point], removal_stage_numbers(stage)].concat()
+        }
+    }
+}
+
+fn put_stage_numbers(stage: PutStage) -> Vec<u32> {
+    match stage {
+        PutStage::Searching(search) => [vec![0], search_numbers(search)].concat(),
+        PutStage::Scanning(next) => vec![1, next],
+        PutStage::Found(Place { index, value }) => vec![2, index, value],
+        PutStage::Chosen(index) => vec![3, index],
+    }
+}
+
+fn alteration_numbers(alteration: Alteration) -> Vec<u32> {
+    match alteration {
+        Alteration::Given { keep, flip } => vec![0, keep, flip],
+        Alteration::Commanded {
+            station,
+            number,
+            action,
+        } => vec![1, station, number, action],
+    }
+}
+
+fn change_stage_numbers(stage: ChangeStage) -> Vec<u32> {
+    match stage {
+        ChangeStage::Searching(search) => [vec![0], search_numbers(search)].concat(),
+        ChangeStage::Found(Place { index, value }) => vec![1, index, value],
+    }
+}
+
+fn removal_stage_numbers(stage: RemovalStage) -> Vec<u32> {
+    match stage {
+        RemovalStage::Searching(search) => [vec![0], search_numbers(search)].concat(),
+        RemovalStage::Found(Place { index, value }) => vec![1, index, value],
+        RemovalStage::Lowering => vec![2],
+    }
+}

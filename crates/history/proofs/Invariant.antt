@@ -20,7 +20,8 @@ use Rattle.record_ranges.specs.Ranges.{sizesInRange, inRange}
 use Rattle.record_ranges.proofs.Laws.{fresh-in-range}
 use Rattle.refusal.specs.Judging.{within}
 use Rattle.refusal.proofs.Laws.{both-true, is-within}
-use Rattle.answers.specs.Answers.{removed}
+use Rattle.answers.specs.Answers.{removed, gives, outcome}
+use Rattle.table.specs.FreshPanel.{makeFresh}
 use Rattle.slot_words.specs.Taken.{takenSlots}
 use Rattle.plain_list.specs.PlainList.{Rows, entryOf, largestIndex}
 use Rattle.plain_list.proofs.RowLaws.{present≢absent}
@@ -91,10 +92,16 @@ module _ (m k : ℕ) (m-low : 1 ≤ m) (m-high : m ≤ 4096) (k-low : 1 ≤ k) (
   abbrev empty : List ℕ
   empty = replicate m 0
 
-  fresh-sizes : sizesInRange m k (length empty) ≡ true
+  -- "m from 1 to 4096", "k (1 to 64)", and m slots lent
+  sizes-fit : (lent : ℕ) → lent ≡ m → sizesInRange m k lent ≡ true
   unfolding sizesInRange
-  fresh-sizes =
-      both-true _ _ (is-within 1 m 4096 m-low m-high) (both-true _ _ (is-within 1 k 64 k-low k-high) (eq-eqb (length empty) m (length-replicate m 0)))
+  sizes-fit lent whole =
+      both-true _ _ (is-within 1 m 4096 m-low m-high) (both-true _ _ (is-within 1 k 64 k-low k-high) (eq-eqb lent m whole))
+
+  -- a fresh world is what making a fresh record leaves, whatever the m slots lent held
+  pub begins-fresh : (lent : List ℕ) → length lent ≡ m → makeFresh m k lent ≡ outcome (freshWorld m k .panel) (freshWorld m k .slots) (gives [])
+  unfolding makeFresh freshWorld
+  begins-fresh lent whole = rw (sizes-fit (length lent) whole, whole)
 
   fresh-agrees : Agrees m k 0 (replicate 64 0) (replicate m 0) []
   unfolding entryOf countIndex
@@ -136,7 +143,7 @@ module _ (m k : ℕ) (m-low : 1 ≤ m) (m-high : m ≤ 4096) (k-low : 1 ≤ k) (
       record {
         m-is = refl;
         k-is = refl;
-        fits = fresh-in-range m k (length empty) fresh-sizes;
+        fits = fresh-in-range m k (length empty) (sizes-fit (length empty) (length-replicate m 0));
         all-readers = refl;
         agrees = fresh-agrees;
         work = inl refl;

@@ -17,10 +17,10 @@ returns : tie.Need-returns
 returns c = search needs
 
 returns-2 : tie.Need-returns-2
-returns-2 c = cc
+returns-2 c = rw (c .before .answer .given .1)
 
 returns-3 : tie.Need-returns-3
-returns-3 c = cc
+returns-3 c = rw (c .before .answer2 .given .1)
 
 pub of-entry-spec : {M : Type 1} → statement M
 of-entry-spec =

@@ -14,7 +14,7 @@ returns : tie.Need-returns
 returns c = search needs
 
 returns-2 : tie.Need-returns-2
-returns-2 c = cc
+returns-2 c = rw (c .before .answer .given .1)
 
 pub of-start-spec : {M : Type 1} → statement M
 of-start-spec = tie.close (tie.spec enum-told enum-known-answer returns returns-2)

@@ -29,13 +29,13 @@ returns : tie.Need-returns
 returns c = search needs
 
 returns-2 : tie.Need-returns-2
-returns-2 c = cc
+returns-2 c = rw (c .before .answer .given .1)
 
 returns-3 : tie.Need-returns-3
-returns-3 c = cc
+returns-3 c = rw (c .before .answer2 .given .1)
 
 returns-4 : tie.Need-returns-4
-returns-4 c = cc
+returns-4 c = rw (c .before .answer3 .given .1)
 
 returns-5 : tie.Need-returns-5
 returns-5 c = search needs
@@ -44,7 +44,7 @@ returns-6 : tie.Need-returns-6
 returns-6 c = search needs
 
 returns-7 : tie.Need-returns-7
-returns-7 c = cc
+returns-7 c = rw (c .before .answer4 .given .1)
 
 pub of-writer-spec : {M : Type 1} → statement M
 of-writer-spec =

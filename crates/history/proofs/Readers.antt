@@ -28,7 +28,7 @@ use Rattle.search.specs.declared.Searched.the-variants.{Going, Answered}
 use Rattle.search.specs.declared.SearchAnswer.the-variants.{Found, Unknown}
 use Rattle.search.specs.Access.{wordRead}
 use Rattle.search.specs.Search.{searchAccess, searchAdvance}
-use Rattle.search.proofs.SearchLaws.{searchLeft, searchedLeft, OneStep, search-step}
+use Rattle.search.proofs.SearchLaws.{searchLeft, some-left, searchedLeft, OneStep, search-step}
 use Rattle.search.proofs.TrailLaws.{Trail, Knows, search-knows, trail-after}
 use Rattle.reader_step.specs.Reader.{isIdle, readerAccess, ReaderMove, lookupAnswer, lookupMove, lookupAdvance, walkAdvance, readerAdvance}
 use Rattle.history.specs.World.{ReaderNotes, wordGiven, steppedReader, witnessed}
@@ -169,11 +169,6 @@ module _ (m k reach : ℕ) (counts slots : List ℕ) (rows : Rows) (agrees : Agr
         search-knows (Missed point moments) m k reach counts slots rows agrees point (valid-low point valid) here search fits
         (trail-after (Missed point (notes .moments)) (Missed point moments) m k point rows rows (steady-same rows) there here search (ok .trail))
 
-    some-left : (s : Search) → 1 ≤ searchLeft k s
-    unfolding searchLeft
-    some-left Unread = omega arith
-    some-left (Probing probe) = omega arith
-
     first-made : (s : Search) → FirstMade s (notes .steps + 1)
     first-made Unread = tt
     first-made (Probing probe) = omega arith
@@ -189,7 +184,7 @@ module _ (m k reach : ℕ) (counts slots : List ℕ) (rows : Rows) (agrees : Agr
                 first = first-made s;
                 left = omega (arith, ok .left, one .less);
               };
-          right = lookup-underway (omega (arith, ok .left, one .less, some-left s));
+          right = lookup-underway (omega (arith, ok .left, one .less, some-left k s));
           carried = refl;
         }
     moved-right (Answered (Found place)) known one =

@@ -14,26 +14,17 @@ use Rattle.refusal.specs.Judging.{both, either}
 use Rattle.record.specs.declared.Record.{Record}
 use Rattle.record.specs.declared.Reader.{Reader}
 use Rattle.record.specs.declared.Station.{Station}
-use Rattle.record.specs.declared.Search.{Search}
-use Rattle.record.specs.declared.Search.the-variants.{Unread, Probing}
-use Rattle.record.specs.declared.PutStage.{PutStage}
-use Rattle.record.specs.declared.PutStage.the-variants.{Searching as PutStage·Searching, Scanning, Found as PutStage·Found, Chosen}
-use Rattle.record.specs.declared.ChangeStage.{ChangeStage}
-use Rattle.record.specs.declared.ChangeStage.the-variants.{Searching as ChangeStage·Searching, Found as ChangeStage·Found}
-use Rattle.record.specs.declared.RemovalStage.{RemovalStage}
-use Rattle.record.specs.declared.RemovalStage.the-variants.{Searching as RemovalStage·Searching, Found as RemovalStage·Found, Lowering}
 use Rattle.record.specs.declared.WriterWork.{WriterWork}
-use Rattle.record.specs.declared.WriterWork.the-variants.{Idle, Putting, Changing, Removing}
+use Rattle.record.specs.declared.WriterWork.the-variants.{Idle}
 use Rattle.record.specs.Parts.{idleReader, workOf, withWriter}
 use Rattle.record_ranges.proofs.Laws.{fields}
 use Rattle.answers.specs.Answers.{Answer, started, underway, lookedUp, placed, changed, removed, endedWith, walked, walkedLast, givenAgain, gives, refused, hasEnded, isRefused, Outcome, outcome}
 use Rattle.plain_list.specs.PlainList.{Rows, Operation, feed, largestIndex}
 use Rattle.plain_list.proofs.RowLaws.{Steady, steady-same}
-use Rattle.search.proofs.SearchLaws.{searchLeft}
 use Rattle.moves.specs.declared.memory.WriterAccess.{WriterAccess}
 use Rattle.moves.specs.Memory.{accessRead, slotsAfter, storesSlot}
 use Rattle.moves.specs.Moves.{WriterMove, isIdle, updated}
-use Rattle.moves.proofs.MoveLaws.{putSearchLeft, putLeft, changeLeft, removalLeft, writerLeft, Updated, update-leaves}
+use Rattle.moves.proofs.MoveLaws.{writerLeft, some-left, Updated, update-leaves}
 use Rattle.moves.proofs.StepAgreement.{begun, fedBy, isWriterEnd, Recorded, no-command, command-ends, After, StepOK, goes-on, ends-fed, empties, lowers}
 use Rattle.writer.specs.Step.{writerAccess, writerAdvance, moved, writerRuns, stepWriter}
 use Rattle.writer.proofs.WriterLaws.{run-in-range, run-less}
@@ -92,38 +83,6 @@ end-right k notes (walkedLast word) e h = absurd (false≢true e)
 end-right k notes (givenAgain answer) e h = absurd (false≢true e)
 end-right k notes (gives values) e h = absurd (false≢true e)
 end-right k notes (refused n) e h = absurd (false≢true e)
-
--- work that goes on has a step left
-search-some : (k : ℕ) (search : Search) → 1 ≤ searchLeft k search
-unfolding searchLeft
-search-some k Unread = omega arith
-search-some k (Probing probe) = omega arith
-
-put-some : (k reach : ℕ) (stage : PutStage) → 1 ≤ putLeft k reach stage
-unfolding putLeft putSearchLeft
-put-some k reach (PutStage·Searching Unread) = omega arith
-put-some k reach (PutStage·Searching (Probing probe)) = omega arith
-put-some k reach (Scanning index) = omega arith
-put-some k reach (PutStage·Found place) = omega arith
-put-some k reach (Chosen index) = omega arith
-
-change-some : (k : ℕ) (stage : ChangeStage) → 1 ≤ changeLeft k stage
-unfolding changeLeft
-change-some k (ChangeStage·Searching search) = omega arith
-change-some k (ChangeStage·Found place) = omega arith
-
-removal-some : (k : ℕ) (stage : RemovalStage) → 1 ≤ removalLeft k stage
-unfolding removalLeft
-removal-some k (RemovalStage·Searching search) = omega arith
-removal-some k (RemovalStage·Found place) = omega arith
-removal-some k Lowering = omega arith
-
-work-some : (k reach : ℕ) (work : WriterWork) → isIdle work ≡ false → 1 ≤ writerLeft k reach work
-unfolding writerLeft isIdle
-work-some k reach Idle e = absurd (false≢true (sym e))
-work-some k reach (Putting p) e = put-some k reach (p .stage)
-work-some k reach (Changing c) e = change-some k (c .stage)
-work-some k reach (Removing r) e = removal-some k (r .stage)
 
 -- the world after a step of the writer: whether it was refused, feeds the list, stores a slot, ends the operation
 abbrev steppedWorld : World → Record → List ℕ → Answer → Bool → Bool → Bool → Bool → World
@@ -247,7 +206,7 @@ module _ (world : World) (inv : Inv (world .panel .m) (world .panel .k) world) w
     in-time = omega (arith, noted-ok .left, less)
 
     in-time-more : isIdle (move .work) ≡ false → notes .steps + 1 < stepBound k (notes .asked)
-    in-time-more on = omega (arith, noted-ok .left, less, work-some k (after .reach) (move .work) on)
+    in-time-more on = omega (arith, noted-ok .left, less, some-left k (after .reach) (move .work) on)
 
     left-after : notes .steps + 1 + writerLeft k (after .reach) (move .work) ≤ stepBound k (notes .asked)
     left-after = omega (arith, noted-ok .left, less)

@@ -2,8 +2,8 @@
 -- left, at most, by which the bounds 2k + 2, k + 2 and k + 3 are shown.
 -- Assumes nothing.
 use Prim.Native.Nat.{ℕ, _+_, _*_, _-_, _≤_, min}
-use mathlib.Core.Path.{_≡_, refl}
-use mathlib.Core.Bool.{Bool, true, false, cond, not}
+use mathlib.Core.Path.{_≡_, refl, sym}
+use mathlib.Core.Bool.{Bool, true, false, cond, not, false≢true}
 use native.Mathlib.Omega.{arith}
 use borrow.Author.Tests.{leb-true, ltb-true, ltb-false}
 use lib.Dec.{ltb, leb}
@@ -154,3 +154,30 @@ pub record OneMove (k reach left : ℕ) (move : WriterMove) : Type 0 where
   -- "A step that ends an operation .. leaves that party idle", and only such a step does
   pub ended : isUnderway (move .answer) ≡ not (isIdle (move .work))
   pub less : writerLeft k (reachAfter reach (move .update)) (move .work) + 1 ≤ left
+
+-- work that goes on has a step left
+put-some : (k reach : ℕ) (stage : PutStage) → 1 ≤ putLeft k reach stage
+unfolding putLeft putSearchLeft
+put-some k reach (PutStage·Searching Unread) = omega arith
+put-some k reach (PutStage·Searching (Probing probe)) = omega arith
+put-some k reach (Scanning index) = omega arith
+put-some k reach (PutStage·Found place) = omega arith
+put-some k reach (Chosen index) = omega arith
+
+change-some : (k : ℕ) (stage : ChangeStage) → 1 ≤ changeLeft k stage
+unfolding changeLeft
+change-some k (ChangeStage·Searching search) = omega arith
+change-some k (ChangeStage·Found place) = omega arith
+
+removal-some : (k : ℕ) (stage : RemovalStage) → 1 ≤ removalLeft k stage
+unfolding removalLeft
+removal-some k (RemovalStage·Searching search) = omega arith
+removal-some k (RemovalStage·Found place) = omega arith
+removal-some k Lowering = omega arith
+
+pub some-left : (k reach : ℕ) (work : WriterWork) → isIdle work ≡ false → 1 ≤ writerLeft k reach work
+unfolding writerLeft isIdle
+some-left k reach Idle e = absurd (false≢true (sym e))
+some-left k reach (Putting put) e = put-some k reach (put .stage)
+some-left k reach (Changing change) e = change-some k (change .stage)
+some-left k reach (Removing removal) e = removal-some k (removal .stage)

@@ -28,7 +28,13 @@ unfoldable pub searchLeft : ℕ → Search → ℕ
 searchLeft k Unread = k + 1
 searchLeft k (Probing probe) = probe .reach - probe .next + 1
 
--- the same of a search as it stands after a step
+-- a search that goes on has one left
+pub some-left : (k : ℕ) (search : Search) → 1 ≤ searchLeft k search
+unfolding searchLeft
+some-left k Unread = omega arith
+some-left k (Probing probe) = omega arith
+
+-- the steps that are left of a search as it stands after a step
 unfoldable pub searchedLeft : ℕ → Searched → ℕ
 searchedLeft k (Going search) = searchLeft k search
 searchedLeft k (Answered answer) = 0

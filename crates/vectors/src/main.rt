@@ -1,13 +1,23 @@
 // The second, test program of document 01: outside vectors, run through the proved functions.
+mod answer_digest;
 mod commands;
+mod digest;
 mod disabled;
+mod drawn_calls;
+mod drawn_commands;
+mod drawn_frames;
+mod drawn_history;
+mod drawn_numbers;
+mod drawn_panels;
 mod frames;
 mod fresh;
 mod operations;
 mod printing;
 mod ranges;
 mod readers;
+mod state_digest;
 mod unreached;
+mod work_digest;
 mod writer_refusals;
 mod writing;
 
@@ -29,6 +39,7 @@ fn main() {
     writing::run();
     writer_refusals::run();
     unreached::run();
+    drawn_panels::run();
 }
 
 // The published check z(10000), and the table's first six values.

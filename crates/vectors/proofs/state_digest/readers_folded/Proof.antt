@@ -1,9 +1,9 @@
--- `call_vectors::state_digest::readers_folded` ends: it counts up to reader 15.
+-- `vectors::state_digest::readers_folded` ends: it counts up to reader 15.
 -- Assumes nothing.
 use Prim.Native.Nat.{_-_, _≤_}
 use borrow.Author.Needs.{needs}
-use Rattle.call_vectors.proofs.state_digest.readers_folded.Statement.{statement}
-use Rattle.call_vectors.proofs.state_digest.readers_folded.Tie as tie
+use Rattle.vectors.proofs.state_digest.readers_folded.Statement.{statement}
+use Rattle.vectors.proofs.state_digest.readers_folded.Tie as tie
 
 abbrev Inv-loop : tie.InvT-loop
 Inv-loop panel now₀ reader₀ now reader = reader ≤ 16

@@ -1,10 +1,10 @@
--- `call_vectors::state_digest::slots_folded` ends: it counts up to the number of slots.
+-- `vectors::state_digest::slots_folded` ends: it counts up to the number of slots.
 -- Assumes nothing.
 use Prim.Native.Nat.{_-_, _≤_}
 use borrow.Author.Needs.{needs}
 use lib.ListN.{length}
-use Rattle.call_vectors.proofs.state_digest.slots_folded.Statement.{statement}
-use Rattle.call_vectors.proofs.state_digest.slots_folded.Tie as tie
+use Rattle.vectors.proofs.state_digest.slots_folded.Statement.{statement}
+use Rattle.vectors.proofs.state_digest.slots_folded.Tie as tie
 
 abbrev Inv-loop : tie.InvT-loop
 Inv-loop slots now₀ i₀ i-end now i = i ≤ length slots

@@ -8,10 +8,11 @@ use crate::drawn_commands::drawn_command;
 use crate::drawn_frames::drawn_length;
 use crate::drawn_frames::drawn_map;
 use crate::drawn_frames::frame_of;
-use crate::generator::draw;
+use crate::drawn_numbers::draw;
 use crate::printing::line_end;
 use crate::printing::number;
 use crate::printing::text;
+use crate::printing::word;
 use crate::state_digest::state_folded;
 use history::apply;
 use record::Record;
@@ -25,7 +26,7 @@ struct Progress {
 }
 
 // Five thousand calls; the generator's value behind them.
-pub(crate) fn run(panel: Record, slots: &mut [u64], points: u32, drawn: u32) -> u32 {
+pub(crate) fn calls(panel: Record, slots: &mut [u64], points: u32, drawn: u32) -> u32 {
     let mut now = Progress {
         panel: panel,
         drawn: drawn,
@@ -73,13 +74,13 @@ fn report(now: Progress, slots: &[u64], made: u32) {
     let panel = now.panel;
     let digest = now.digest;
     text(b"calls");
-    number(made as u64);
+    number(made);
     text(b": digest");
-    number(digest.first as u64);
-    number(digest.second as u64);
+    number(digest.first);
+    number(digest.second);
     text(b" reach");
-    number(panel.reach as u64);
+    number(panel.reach);
     text(b" taken");
-    number(taken_slots(slots) as u64);
+    word(taken_slots(slots) as u64);
     line_end();
 }

@@ -1,26 +1,15 @@
-// Long histories of calls that a generator draws, of all eight kinds, on four panels.
-mod answer_digest;
-mod digest;
-mod drawn_calls;
-mod drawn_commands;
-mod drawn_frames;
-mod drawn_history;
-mod generator;
-mod printing;
-mod state_digest;
-mod work_digest;
-
-use drawn_history::run;
-use printing::line_end;
-use printing::number;
-use printing::text;
+// Long histories of drawn calls, of all eight kinds, on four panels.
+use crate::drawn_history::calls;
+use crate::printing::line_end;
+use crate::printing::number;
+use crate::printing::text;
 use record::CommandAnswer;
 use record::Record;
 use record::Station;
 use record::parts::with_station;
 
 // The generator runs on from panel to panel.
-fn main() {
+pub(crate) fn run() {
     let after_one = one_slot(1);
     let after_few = few_points(after_one);
     let after_full = full_table(after_few);
@@ -31,34 +20,34 @@ fn main() {
 fn one_slot(drawn: u32) -> u32 {
     let mut slots = [0u64; 1];
     let panel = panel_over(&mut slots, 1, 3);
-    run(with_late_station(panel), &mut slots, 2, drawn)
+    calls(with_late_station(panel), &mut slots, 2, drawn)
 }
 
 // So few points that the reach often goes up and down.
 fn few_points(drawn: u32) -> u32 {
     let mut slots = [0u64; 8];
     let panel = panel_over(&mut slots, 8, 4);
-    run(panel, &mut slots, 6, drawn)
+    calls(panel, &mut slots, 6, drawn)
 }
 
 // More points than slots: the reach is high, and puts find no perch.
 fn full_table(drawn: u32) -> u32 {
     let mut slots = [0u64; 16];
     let panel = panel_over(&mut slots, 16, 16);
-    run(panel, &mut slots, 24, drawn)
+    calls(panel, &mut slots, 24, drawn)
 }
 
 // Walks of many steps, between which points come and go.
 fn many_slots(drawn: u32) -> u32 {
     let mut slots = [0u64; 64];
     let panel = panel_over(&mut slots, 64, 16);
-    run(panel, &mut slots, 64, drawn)
+    calls(panel, &mut slots, 64, drawn)
 }
 
 fn panel_over(slots: &mut [u64], m: u32, k: u32) -> Record {
     text(b"panel");
-    number(m as u64);
-    number(k as u64);
+    number(m);
+    number(k);
     line_end();
     let made = table::fresh(slots, m, k);
     made.panel

@@ -1,7 +1,7 @@
 // A call chosen by drawn numbers. All eight occur, and steps most often, so that work comes to its end.
-use crate::generator::Draws;
-use crate::generator::joined;
-use crate::generator::upper;
+use crate::drawn_numbers::Draws;
+use crate::drawn_numbers::joined;
+use crate::drawn_numbers::upper;
 use history::Call;
 
 pub(crate) fn drawn_call(draws: Draws, points: u32) -> Call {

@@ -1,10 +1,10 @@
--- `call_vectors::drawn_history::call` is safe: the part of the frame that it lends is within the buffer.
+-- `vectors::drawn_history::call` is safe: the part of the frame that it lends is within the buffer.
 -- Assumes nothing.
 use native.Mathlib.Omega.{arith}
 use borrow.Author.Needs.{needs}
 use lib.ListN.{length-take}
-use Rattle.call_vectors.proofs.drawn_history.call.Statement.{statement}
-use Rattle.call_vectors.proofs.drawn_history.call.Tie as tie
+use Rattle.vectors.proofs.drawn_history.call.Statement.{statement}
+use Rattle.vectors.proofs.drawn_history.call.Tie as tie
 
 draw-requires : tie.Need-draw-requires
 draw-requires c κs = search needs

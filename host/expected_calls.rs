@@ -1,25 +1,11 @@
-//! What the program `call_vectors` has to print, worked out a second time from document 01: the
-//! stored output is compared with this.
+//! The long histories of drawn calls that `vectors` runs, on four panels: a digest after each
+//! hundred calls.
 
-mod expected_digest;
-mod expected_draws;
-mod reference_calls;
-mod reference_command;
-mod reference_record;
-mod reference_writer;
-
-// Frames are only read here.
-#[allow(dead_code)]
-mod reference_frame;
-// Disabled points are no call of a history.
-#[allow(dead_code)]
-mod reference_table;
-
-use expected_digest::Digest;
-use expected_draws::{Draws, Generator};
-use reference_calls::apply;
-use reference_record::{Record, Station};
-use reference_table::fresh;
+use crate::expected_digest::Digest;
+use crate::expected_draws::{Draws, Generator};
+use crate::reference_calls::apply;
+use crate::reference_record::{Record, Station};
+use crate::reference_table::fresh;
 
 const LINES: u32 = 50;
 const CALLS_BETWEEN_LINES: u32 = 100;
@@ -69,7 +55,7 @@ impl Panel {
     }
 }
 
-fn main() {
+pub fn run() {
     let mut generator = Generator(1);
     let mut one_slot = Panel::fresh(1, 3, 2);
     // Ten numbers are left to station 4.

@@ -1,7 +1,7 @@
 // A station's command chosen by drawn numbers: in turn, the last one again, altered or out of turn.
 use crate::drawn_calls::drawn_point;
-use crate::generator::Draws;
-use crate::generator::upper;
+use crate::drawn_numbers::Draws;
+use crate::drawn_numbers::upper;
 use command::Sent;
 use record::Record;
 use record::parts::station_of;

@@ -1,9 +1,9 @@
--- `call_vectors::state_digest::counts_folded` ends: it counts up to index 64.
+-- `vectors::state_digest::counts_folded` ends: it counts up to index 64.
 -- Assumes nothing.
 use Prim.Native.Nat.{_-_, _≤_}
 use borrow.Author.Needs.{needs}
-use Rattle.call_vectors.proofs.state_digest.counts_folded.Statement.{statement}
-use Rattle.call_vectors.proofs.state_digest.counts_folded.Tie as tie
+use Rattle.vectors.proofs.state_digest.counts_folded.Statement.{statement}
+use Rattle.vectors.proofs.state_digest.counts_folded.Tie as tie
 
 abbrev Inv-loop : tie.InvT-loop
 Inv-loop panel now₀ index₀ now index = index ≤ 65

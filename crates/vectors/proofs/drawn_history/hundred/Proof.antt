@@ -1,11 +1,11 @@
--- `call_vectors::drawn_history::hundred` ends: it makes 100 calls.
+-- `vectors::drawn_history::hundred` ends: it makes 100 calls.
 -- Assumes nothing.
 use Prim.Native.Nat.{_-_, _≤_}
 use mathlib.Core.Path.{_≡_}
 use borrow.Author.Needs.{needs}
 use lib.ListN.{length}
-use Rattle.call_vectors.proofs.drawn_history.hundred.Statement.{statement}
-use Rattle.call_vectors.proofs.drawn_history.hundred.Tie as tie
+use Rattle.vectors.proofs.drawn_history.hundred.Statement.{statement}
+use Rattle.vectors.proofs.drawn_history.hundred.Tie as tie
 
 abbrev Inv-loop : tie.InvT-loop
 Inv-loop slots₀ points now₀ counter₀ slots now counter = (counter ≤ 100) × (length slots ≡ length slots₀)

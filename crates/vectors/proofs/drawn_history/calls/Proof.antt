@@ -1,11 +1,11 @@
--- `call_vectors::drawn_history::run` ends: it counts up to part 50.
+-- `vectors::drawn_history::calls` ends: it counts up to part 50.
 -- Assumes nothing.
 use Prim.Native.Nat.{_-_, _≤_}
 use mathlib.Core.Path.{_≡_}
 use borrow.Author.Needs.{needs}
 use lib.ListN.{length}
-use Rattle.call_vectors.proofs.drawn_history.run.Statement.{statement}
-use Rattle.call_vectors.proofs.drawn_history.run.Tie as tie
+use Rattle.vectors.proofs.drawn_history.calls.Statement.{statement}
+use Rattle.vectors.proofs.drawn_history.calls.Tie as tie
 
 abbrev Inv-loop : tie.InvT-loop
 Inv-loop slots₀ points drawn now₀ part₀ slots now part = (part ≤ 51) × (length slots ≡ length slots₀)
@@ -43,8 +43,8 @@ same-length c = search needs
 returns : tie.Need-returns Inv-loop μ-loop
 returns c = search needs
 
-pub run-spec : {M : Type 1} → statement M
-run-spec =
+pub calls-spec : {M : Type 1} → statement M
+calls-spec =
     tie.close
     (tie.spec
     Inv-loop

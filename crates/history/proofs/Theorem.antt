@@ -14,21 +14,21 @@ use Rattle.history.proofs.WriterStarts.{put-kept, change-kept, removal-
 use Rattle.history.proofs.WriterSteps.{step-kept as writer-step-kept}
 
 -- each call, by its definition
-call-kept : (world : World) → Inv (world .panel .m) (world .panel .k) world → (request : Request) (call : Call) → ArgumentsFit call → Kept world (roleOf request call) (applied (world .panel) (world .slots) call (request .frame))
+call-kept : (world : World) → Inv (world .panel .m) (world .panel .k) world → (call : Call) (frame : List ℕ) → ArgumentsFit call → Kept world (roleOf call frame) (applied (world .panel) (world .slots) call frame)
 unfolding roleOf applied
-call-kept world inv request (StartLookup reader point) fit = lookup-kept world inv reader point
-call-kept world inv request (StartWalk reader) fit = walk-kept world inv reader
-call-kept world inv request (StepReader reader) fit = reader-step-kept world inv reader
-call-kept world inv request (StartPut point value) fit = put-kept world inv point value (fit .1)
-call-kept world inv request (StartChange point keep flip) fit = change-kept world inv point keep flip (fit .2)
-call-kept world inv request (StartRemoval point) fit = removal-kept world inv point
-call-kept world inv request StartCommand fit = command-kept world inv (request .frame)
-call-kept world inv request StepWriter fit = writer-step-kept world inv
+call-kept world inv (StartLookup reader point) frame fit = lookup-kept world inv reader point
+call-kept world inv (StartWalk reader) frame fit = walk-kept world inv reader
+call-kept world inv (StepReader reader) frame fit = reader-step-kept world inv reader
+call-kept world inv (StartPut point value) frame fit = put-kept world inv point value (fit .1)
+call-kept world inv (StartChange point keep flip) frame fit = change-kept world inv point keep flip (fit .2)
+call-kept world inv (StartRemoval point) frame fit = removal-kept world inv point
+call-kept world inv StartCommand frame fit = command-kept world inv frame
+call-kept world inv StepWriter frame fit = writer-step-kept world inv
 
 -- what a call leaves, for the m and k of the claim
 record Next (m k : ℕ) (world : World) (request : Request) : Type 0 where
   inv : Inv m k (next world request)
-  right : Right m k world (next world request) (roleOf request (request .call)) (outcomeOf world request .answer)
+  right : Right m k world (next world request) (roleOf (request .call) (request .frame)) (outcomeOf world request .answer)
 
 next-kept : (m k : ℕ) (world : World) (request : Request) → Inv m k world → ArgumentsFit (request .call) → Next m k world request
 unfolding next outcomeOf
@@ -39,7 +39,7 @@ next-kept m k world request inv fit =
     own = subst (λ (x : ℕ). Inv x (world .panel .k) world) (sym (inv .m-is)) (subst (λ (x : ℕ). Inv m x world) (sym (inv .k-is)) inv)
 
     here : Next (world .panel .m) (world .panel .k) world request
-    here = let kept = call-kept world own request (request .call) fit in record { inv = kept .inv; right = kept .right }
+    here = let kept = call-kept world own (request .call) (request .frame) fit in record { inv = kept .inv; right = kept .right }
 
 holds : (m k : ℕ) (world : World) (requests : List Request) → Inv m k world → AllFit requests → Holds m k world requests
 holds m k world [] inv fit = world-right m k world inv

@@ -197,11 +197,12 @@ module _ (world : World) (inv : Inv (world .panel .m) (world .panel .k) world) w
     no-ends answer none true = ap (λ (l : List Sent). givenTo l answer ++ world .ended) (noted-ok .command ∙ none)
     no-ends answer none false = refl
 
-    -- the end of an operation: every part of the claim but the answer
+    -- after its last step the writer has no work
     idle-absurd : {A : Type 0} → move .work ≡ Idle → isIdle (move .work) ≡ false → A
     unfolding isIdle
     idle-absurd e f = absurd (false≢true (sym f ∙ ap isIdle e))
 
+    -- the step takes one of those that are left
     in-time : notes .steps + 1 ≤ stepBound k (notes .asked)
     in-time = omega (arith, noted-ok .left, less)
 

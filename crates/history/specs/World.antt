@@ -36,15 +36,15 @@ unfoldable pub asChange : Sent → Operation
 asChange sent = change (sent .point) (actionMasks (sent .action) .keep) (actionMasks (sent .action) .flip)
 
 -- "starts of lookups and walks, readers' steps, puts, changes, removals, commands and writer's steps"
-unfoldable pub roleOf : Request → Call → Role
-roleOf request (StartLookup reader point) = readerStart reader point
-roleOf request (StartWalk reader) = readerStart reader 0
-roleOf request (StepReader reader) = readerStep reader
-roleOf request (StartPut point value) = writerStart (put point value) []
-roleOf request (StartChange point keep flip) = writerStart (change point keep flip) []
-roleOf request (StartRemoval point) = writerStart (removal point) []
-roleOf request StartCommand = writerStart (asChange (sentIn (request .frame))) (sentIn (request .frame) ∷ [])
-roleOf request StepWriter = writerStep
+unfoldable pub roleOf : Call → List ℕ → Role
+roleOf (StartLookup reader point) frame = readerStart reader point
+roleOf (StartWalk reader) frame = readerStart reader 0
+roleOf (StepReader reader) frame = readerStep reader
+roleOf (StartPut point value) frame = writerStart (put point value) []
+roleOf (StartChange point keep flip) frame = writerStart (change point keep flip) []
+roleOf (StartRemoval point) frame = writerStart (removal point) []
+roleOf StartCommand frame = writerStart (asChange (sentIn frame)) (sentIn frame ∷ [])
+roleOf StepWriter frame = writerStep
 
 -- what is noted of the writer's operation
 pub record WriterNotes : Type 0 where
@@ -205,7 +205,7 @@ outcomeOf world request = applied (world .panel) (world .slots) (request .call) 
 
 -- the world after a call
 unfoldable pub next : World → Request → World
-next world request = noted world (roleOf request (request .call)) (outcomeOf world request)
+next world request = noted world (roleOf (request .call) (request .frame)) (outcomeOf world request)
 
 -- a fresh panel: nothing stored, nothing asked, nothing noted
 unfoldable pub freshWorld : ℕ → ℕ → World

@@ -1,10 +1,12 @@
 -- `command::change_starts` meets its contract: refused if the writer has work, else its work is the change.
 -- Assumes nothing.
-use mathlib.Core.Path.{sym, ap, _∙_}
+use mathlib.Core.Path.{_≡_, sym, ap, _∙_}
 use borrow.Author.Tests.{not-true, not-false}
+use mathlib.Core.Bool.{true, false}
 use Rattle.refusal.specs.Judging.{refuseIf}
 use Rattle.record.specs.declared.Record.{Record}
 use Rattle.answers.specs.Answers.{started, outcome, unlessRefused}
+use Rattle.moves.specs.Moves.{isIdle}
 use Rattle.command.specs.Command.{changeStarts}
 use borrow.Author.Needs.{needs}
 use Rattle.command.proofs.change_starts.Statement.{statement}
@@ -18,14 +20,20 @@ refuse-requires c κs = search needs
 
 returns : tie.Need-returns
 unfolding changeStarts refuseIf unlessRefused
-returns c slots = rw (sym (c .before .before .has-no-work .ensures) ∙ not-true _ (c .before .if1 .taken)) (c .refuse .ensures slots)
+returns c slots =
+    let a = c .before .before .before .args in
+    let engaged : isIdle (a .panel .writer) ≡ false = sym (c .before .before .has-no-work .ensures) ∙ not-true _ (c .before .if1 .taken) in
+    rw engaged (c .refuse .ensures slots)
 
 with-change-requires : tie.Need-with-change-requires
 with-change-requires c κs = search needs
 
 returns-2 : tie.Need-returns-2
 unfolding changeStarts refuseIf unlessRefused
-returns-2 c slots = rw (sym (c .before .before .has-no-work .ensures) ∙ not-false _ (c .before .if1 .left)) (ap (λ (panel : Record). outcome panel slots started) (c .with-change .ensures))
+returns-2 c slots =
+    let a = c .before .before .before .args in
+    let idle : isIdle (a .panel .writer) ≡ true = sym (c .before .before .has-no-work .ensures) ∙ not-false _ (c .before .if1 .left) in
+    rw idle (ap (λ (panel : Record). outcome panel slots started) (c .with-change .ensures))
 
 pub change-starts-spec : {M : Type 1} → statement M
 change-starts-spec =

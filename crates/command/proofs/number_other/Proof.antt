@@ -1,5 +1,9 @@
 -- `command::number_other` meets its contract, by its test.
 -- Assumes nothing.
+use Prim.Native.Nat.{_+_}
+use mathlib.Core.Logic.{_≢_}
+use mathlib.Core.Path.{_≡_}
+use native.Mathlib.Omega.{arith}
 use borrow.Author.Tests.{eq-eqb, ne-eqb}
 use Rattle.command.specs.Command.{numberOther}
 use borrow.Author.Needs.{needs}
@@ -20,14 +24,20 @@ change-starts-requires c κs = search needs
 
 returns : tie.Need-returns
 unfolding numberOther
-returns c slots = rw (eq-eqb _ _ (c .before .if1 .taken)) (c .change-starts .ensures slots)
+returns c slots =
+    let a = c .before .before .before .before .args in
+    let next : a .sent .number ≡ a .last .number + 1 = omega (arith, c .before .if1 .taken) in
+    rw (eq-eqb (a .sent .number) (a .last .number + 1) next) (c .change-starts .ensures slots)
 
 refuse-requires : tie.Need-refuse-requires
 refuse-requires c κs = search needs
 
 returns-2 : tie.Need-returns-2
 unfolding numberOther
-returns-2 c slots = rw (ne-eqb _ _ (c .before .if1 .left)) (c .refuse .ensures slots)
+returns-2 c slots =
+    let a = c .before .before .before .before .args in
+    let other : a .sent .number ≢ a .last .number + 1 = omega (arith, c .before .if1 .left) in
+    rw (ne-eqb (a .sent .number) (a .last .number + 1) other) (c .refuse .ensures slots)
 
 pub number-other-spec : {M : Type 1} → statement M
 number-other-spec =

@@ -75,9 +75,6 @@ tight-value m k reach q new rows (inr x) = inr (go (ℕ-discrete (x .point) q))
         }
 
 module _ (m k reach : ℕ) (counts slots : List ℕ) (rows : Rows) (agrees : Agrees m k reach counts slots rows) where
-  pub position-inside : (q i : ℕ) → positionOf m q i < length slots
-  position-inside q i = omega (arith, position-below m q i (agrees .some-slot), agrees .whole)
-
   pub place-low : (q place j : ℕ) → Lowest m k q place j → place < m
   place-low q place j l = subst (λ (y : ℕ). y < m) (l .at) (position-below m q j (agrees .some-slot))
 

@@ -10,7 +10,6 @@ use native.Mathlib.Omega.{arith}
 use native.Mathlib.Decide.{ℕ-discrete}
 use lib.ListN.{getD, length}
 use Rattle.refusal.proofs.Laws.{within-low}
-use Rattle.hash.specs.Position.{positionOf}
 use Rattle.hash.proofs.Laws.{position-below}
 use Rattle.slot_words.specs.Word.{pointOf, valueOf, wordOf}
 use Rattle.slot_words.specs.Taken.{takenSlots}

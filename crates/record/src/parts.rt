@@ -1,4 +1,5 @@
-// Records made, and a part of one read or replaced.
+// Records made, and a part of one read or replaced. A part of an array is read from a copy of that array,
+// since the compiler would copy the whole record for it.
 ghost use mathlib.Core.Path.{_≡_};
 ghost use Rattle.record.specs.Parts.{unheardStation, freshRecord, workOf, withWork, withWriter, withReach, countOf, withCount, stationOf, withStation};
 use crate::CommandAnswer;
@@ -49,7 +50,8 @@ pub fn work_of(panel: Record, reader: u32) -> ReaderWork
     if 15 < reader {
         return ReaderWork::Idle;
     }
-    let found = panel.readers[reader as usize];
+    let readers = panel.readers;
+    let found = readers[reader as usize];
     found.work
 }
 
@@ -101,7 +103,8 @@ pub fn count_of(panel: Record, index: u32) -> u32
     if 64 < index {
         return 0;
     }
-    panel.counts[(index - 1) as usize]
+    let counts = panel.counts;
+    counts[(index - 1) as usize]
 }
 
 // The record with an index's count replaced; with an index outside 1 to 64 the record as it is.
@@ -129,7 +132,8 @@ pub fn station_of(panel: Record, station: u32) -> Station
     if 32 < station {
         return unheard();
     }
-    panel.stations[(station - 1) as usize]
+    let stations = panel.stations;
+    stations[(station - 1) as usize]
 }
 
 // The record with a station's last command replaced; with a station outside 1 to 32 the record as it is.

@@ -10,21 +10,18 @@ use Rattle.record.proofs.Numbered.{numbered-zero, numbered-past, number
 use Rattle.record.proofs.parts.count_of.Statement.{statement}
 use Rattle.record.proofs.parts.count_of.Tie as tie
 
--- `record::parts::count_of` meets its contract: the element counted from 1, or what stands for none.
--- Assumes nothing.
-
 returns : tie.Need-returns
 unfolding countOf
 returns c =
     let a = c .before .args in
-    sym (numbered-zero (a .t1 .counts) (a .index) 0 (c .if1 .taken))
+    sym (numbered-zero (a .panel .counts) (a .index) 0 (c .if1 .taken))
 
 returns-2 : tie.Need-returns-2
 unfolding countOf
 returns-2 c =
     let a = c .before .before .args in
-    let all : length (a .t1 .counts) ≡ 64 = mapped-length (a .t1 .counts) _ 64 (c .before .before .good .0 .1 .1 .1 .1 .1 .0 .1 .0 .1) in
-    sym (numbered-past (a .t1 .counts) (a .index) 0 (omega (arith, c .if2 .taken)))
+    let all : length (a .panel .counts) ≡ 64 = mapped-length (a .panel .counts) _ 64 (c .before .before .good .0 .1 .1 .1 .1 .1 .0 .1 .0 .1) in
+    sym (numbered-past (a .panel .counts) (a .index) 0 (omega (arith, c .if2 .taken)))
 
 sub-result : tie.Need-sub-result
 sub-result c = search needs
@@ -35,14 +32,14 @@ cast-result c = search needs
 mul-result : tie.Need-mul-result
 mul-result c = search needs
 
-element-copy-out-result : tie.Need-element-copy-out-result
-element-copy-out-result c = search needs
+array-read-result : tie.Need-array-read-result
+array-read-result c = search needs
 
 returns-3 : tie.Need-returns-3
 unfolding countOf
 returns-3 c =
     let a = c .before .before .before .args in
-    sym (numbered-at (a .t1 .counts) (a .index) 0 (omega (arith, c .before .before .if1 .left)))
+    sym (numbered-at (a .panel .counts) (a .index) 0 (omega (arith, c .before .before .if1 .left)))
 
 pub count-of-spec : {M : Type 1} → statement M
 count-of-spec =
@@ -53,5 +50,5 @@ count-of-spec =
     sub-result
     cast-result
     mul-result
-    element-copy-out-result
+    array-read-result
     returns-3)

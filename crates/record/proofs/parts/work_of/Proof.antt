@@ -13,13 +13,13 @@ use Rattle.record.proofs.parts.work_of.Tie as tie
 mul-found : tie.Need-mul-found
 mul-found c = search needs
 
-element-copy-out-found : tie.Need-element-copy-out-found
-element-copy-out-found c = search needs
+array-copy-out-found : tie.Need-array-copy-out-found
+array-copy-out-found c = search needs
 
 returns : tie.Need-returns
 unfolding workOf
 returns c =
-    let p = c .before .args .t1 in
+    let p = c .before .args .panel in
     let sixteen : length (p .readers) ≡ 16 = mapped-length (p .readers) _ 16 (c .before .good .0 .1 .1 .1 .1 .1 .1 .1 .0 .1 .0 .1) in
     ap (λ (r : Reader). r .work) (sym (List·getD-eq-default (p .readers) idleReader (omega arith)))
 
@@ -28,4 +28,4 @@ unfolding workOf
 returns-2 c = refl
 
 pub work-of-spec : {M : Type 1} → statement M
-work-of-spec = tie.close (tie.spec returns mul-found element-copy-out-found returns-2)
+work-of-spec = tie.close (tie.spec returns mul-found array-copy-out-found returns-2)

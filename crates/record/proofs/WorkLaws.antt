@@ -1,10 +1,10 @@
--- A reader's work that was replaced: read again, replaced again, and what it leaves to the other readers.
+-- A reader's work that was replaced: read again, replaced again or by what it was, and what it leaves to the other readers.
 -- Assumes nothing.
 use Prim.Native.Nat.{ℕ, _<_}
-use mathlib.Core.Path.{_≡_, ap}
+use mathlib.Core.Path.{_≡_, ap, _∙_, sym}
 use mathlib.Core.Logic.{_≢_}
-use lib.ListN.{length}
-use lib.Seq.{getD-set-same, getD-set-other, set-set}
+use lib.ListN.{length, set}
+use lib.Seq.{getD-set-same, getD-set-other, set-getD, set-set}
 use Rattle.record.specs.declared.Record.{Record}
 use Rattle.record.specs.declared.Reader.{Reader}
 use Rattle.record.specs.declared.ReaderWork.{ReaderWork}
@@ -24,6 +24,21 @@ pub replaced-twice : (panel : Record) (reader : ℕ) (first second : ReaderWork)
 unfolding withWork
 replaced-twice panel reader first second =
     let same = set-set (panel .readers) reader (record { work = first }) (record { work = second }) in
+    λ j.
+    record {
+      m = panel .m;
+      k = panel .k;
+      reach = panel .reach;
+      counts = panel .counts;
+      writer = panel .writer;
+      readers = same j;
+      stations = panel .stations;
+    }
+
+pub same-work : (panel : Record) (reader : ℕ) (work : ReaderWork) → workOf panel reader ≡ work → withWork panel reader work ≡ panel
+unfolding withWork workOf
+same-work panel reader work e =
+    let same = ap (λ (w : ReaderWork). set (panel .readers) reader (record { work = w })) (sym e) ∙ set-getD (panel .readers) reader idleReader in
     λ j.
     record {
       m = panel .m;

@@ -1,5 +1,5 @@
--- A whole lookup ends: its k + 1 steps suffice, on every record. The number of readers is that of the machine's array, which the definitions' lists do
--- not carry.
+-- A whole lookup ends: its k + 1 steps suffice, on every record; and it leaves the record as it was. The number of readers is that of the machine's
+-- array, which the definitions' lists do not carry.
 -- Assumes nothing.
 use Prim.Native.Nat.{ℕ, zero, suc, _+_, _≤_, _<_}
 use mathlib.Core.Path.{_≡_, refl, ap, _∙_, sym, transport}
@@ -17,7 +17,7 @@ use Rattle.record.specs.declared.Walk.{Walk}
 use Rattle.record.specs.declared.ReaderWork.{ReaderWork}
 use Rattle.record.specs.declared.ReaderWork.the-variants.{Idle, LookingUp, Walking}
 use Rattle.record.specs.Parts.{workOf, withWork}
-use Rattle.record.proofs.WorkLaws.{work-replaced, replaced-twice}
+use Rattle.record.proofs.WorkLaws.{work-replaced, replaced-twice, same-work}
 use Rattle.work_ranges.specs.WorkRanges.{validPoint, workInRange, lookupInRange, searchInRange}
 use Rattle.record_ranges.specs.Ranges.{inRange}
 use Rattle.record_ranges.proofs.Laws.{fields, work-in-range, with-work-in-range}
@@ -126,15 +126,22 @@ module _ (panel : Record) (slots : List ℕ) (reader : ℕ) where
   abbrev pub beside : ReaderWork → ReaderMove
   beside work = readerAdvance (panel .m) (panel .reach) work (wordRead slots (readerAccess (panel .m) work))
 
-  pub step-beside : (work : ReaderWork) (answer : Answer) (next : ReaderMove) → AtWork reader (outcome (withWork panel reader work) slots answer) → isUnderway answer ≡ true → next ≡ beside work → readerStep reader (outcome (withWork panel reader work) slots answer) ≡ outcome (withWork panel reader (next .work)) slots (next .answer)
-  unfolding readerStep withWork move
-  step-beside work answer next p e same-move =
-      let same = work-replaced panel reader work (omega (arith, p .held, length-set (panel .readers) reader (record { work = work }))) in
-      let works = not-true (isIdle (workOf (withWork panel reader work) reader)) (sym (p .busy) ∙ e) in
-      allowed reader (withWork panel reader work) slots (p .fits) (p .known) (p .held) works
-      ∙ ap (λ (w : ReaderWork). outcome (withWork (withWork panel reader work) reader (beside w .work)) slots (beside w .answer)) same
-      ∙ ap (λ (after : Record). outcome after slots (beside work .answer)) (replaced-twice panel reader work (beside work .work))
-      ∙ ap (λ (m : ReaderMove). outcome (withWork panel reader (m .work)) slots (m .answer)) (sym same-move)
+  module _ (work : ReaderWork) (answer : Answer) (p : AtWork reader (outcome (withWork panel reader work) slots answer)) where
+    same-work-beside : workOf (withWork panel reader work) reader ≡ work
+    unfolding withWork
+    same-work-beside = work-replaced panel reader work (omega (arith, p .held, length-set (panel .readers) reader (record { work = work })))
+
+    pub busy-beside : isUnderway answer ≡ not (isIdle work)
+    busy-beside = p .busy ∙ ap (λ (w : ReaderWork). not (isIdle w)) same-work-beside
+
+    pub step-beside : (next : ReaderMove) → isUnderway answer ≡ true → next ≡ beside work → readerStep reader (outcome (withWork panel reader work) slots answer) ≡ outcome (withWork panel reader (next .work)) slots (next .answer)
+    unfolding readerStep withWork move
+    step-beside next e same-move =
+        let works = not-true (isIdle (workOf (withWork panel reader work) reader)) (sym (p .busy) ∙ e) in
+        allowed reader (withWork panel reader work) slots (p .fits) (p .known) (p .held) works
+        ∙ ap (λ (w : ReaderWork). outcome (withWork (withWork panel reader work) reader (beside w .work)) slots (beside w .answer)) same-work-beside
+        ∙ ap (λ (after : Record). outcome after slots (beside work .answer)) (replaced-twice panel reader work (beside work .work))
+        ∙ ap (λ (m : ReaderMove). outcome (withWork panel reader (m .work)) slots (m .answer)) (sym same-move)
 
 -- a reader that is given work
 pub given-work : (panel : Record) (slots : List ℕ) (reader : ℕ) (work : ReaderWork) (answer : Answer) → inRange (length slots) (withWork panel reader work) ≡ true → reader ≤ 15 → length (panel .readers) ≡ 16 → isIdle work ≡ false → isUnderway answer ≡ true → AtWork reader (outcome (withWork panel reader work) slots answer)
@@ -147,26 +154,36 @@ given-work panel slots reader work answer fits known sixteen works e =
       busy = e ∙ ap not (sym works) ∙ ap (λ (w : ReaderWork). not (isIdle w)) (sym (work-replaced panel reader work (omega arith)));
     }
 
+idle-work : (work : ReaderWork) → isIdle work ≡ true → work ≡ Idle
+unfolding isIdle
+idle-work Idle e = refl
+idle-work (LookingUp lookup) e = absurd (false≢true e)
+idle-work (Walking walk) e = absurd (false≢true e)
+
 -- a lookup that has been started: in range, with k + 1 steps to go
 module _ (panel : Record) (slots : List ℕ) (reader point : ℕ) (e : lookupRefusal (length slots) panel reader point ≡ 0) where
   work : ReaderWork
   work = LookingUp (record { point = point; search = Unread })
 
-  pub known-reader : reader ≤ 15
+  judged : (inRange (length slots) panel ≡ true) × (reader ≤ 15) × (validPoint point ≡ true) × (workOf panel reader ≡ Idle)
   unfolding lookupRefusal
-  known-reader =
-      let after-1 = not-refused (not (inRange (length slots) panel)) 1 _ (omega arith) e in
-      let after-3 = not-refused (ltb 15 reader) 3 _ (omega arith) (after-1 .1) in
-      omega (arith, ltb-false 15 reader (after-3 .0))
-
-  pub begun-fits : inRange (length slots) (withWork panel reader (LookingUp (record { point = point; search = Unread }))) ≡ true
-  unfolding lookupRefusal workInRange lookupInRange searchInRange
-  begun-fits =
+  judged =
       let after-1 = not-refused (not (inRange (length slots) panel)) 1 _ (omega arith) e in
       let after-3 = not-refused (ltb 15 reader) 3 _ (omega arith) (after-1 .1) in
       let after-2 = not-refused (not (validPoint point)) 2 _ (omega arith) (after-3 .1) in
-      with-work-in-range (length slots) panel (not-false (inRange (length slots) panel) (after-1 .0)) reader _
-      (both-true (validPoint point) true (not-false (validPoint point) (after-2 .0)) refl)
+      let after-4 = not-refused (not (isIdle (workOf panel reader))) 4 0 (omega arith) (after-2 .1) in (
+        not-false (inRange (length slots) panel) (after-1 .0),
+        omega (arith, ltb-false 15 reader (after-3 .0)),
+        not-false (validPoint point) (after-2 .0),
+        idle-work (workOf panel reader) (not-false (isIdle (workOf panel reader)) (after-4 .0)),
+      )
+
+  pub known-reader : reader ≤ 15
+  known-reader = judged .1
+
+  pub begun-fits : inRange (length slots) (withWork panel reader (LookingUp (record { point = point; search = Unread }))) ≡ true
+  unfolding workInRange lookupInRange searchInRange
+  begun-fits = with-work-in-range (length slots) panel (judged .0) reader _ (both-true (validPoint point) true (judged .2) refl)
 
   begins : length (panel .readers) ≡ 16 → AtWork reader (outcome (withWork panel reader work) slots started)
   unfolding work isUnderway isIdle
@@ -187,3 +204,11 @@ whole-lookup-ends panel slots reader point h = go (lookupRefusal (length slots) 
         (outcome (withWork panel reader (work panel slots reader point e)) slots started) (begins panel slots reader point e h)
         (begins-with panel slots reader point e h)
     go (suc n) e = ap (λ (after : Outcome). isUnderway (after .answer)) (has-ended (readerStep reader) (panel .k + 1) (outcome panel slots (refused (suc n))) refl)
+
+-- "leaves that party idle": the reader's work is again what it was, so the record is
+pub leaves-record : (panel : Record) (slots : List ℕ) (reader point : ℕ) (work : ReaderWork) (answer : Answer) → length (panel .readers) ≡ 16 → lookupRefusal (length slots) panel reader point ≡ 0 → isUnderway answer ≡ not (isIdle work) → outcome (withWork panel reader work) slots answer ≡ wholeLookup panel slots reader point → outcome panel slots answer ≡ wholeLookup panel slots reader point
+leaves-record panel slots reader point work answer sixteen e busy same =
+    let ended = ap (λ (now : Outcome). isUnderway (now .answer)) same ∙ whole-lookup-ends panel slots reader point sixteen in
+    let idle = idle-work work (not-false (isIdle work) (sym busy ∙ ended)) in
+    let before = ap (withWork panel reader) idle ∙ same-work panel reader Idle (judged panel slots reader point e .3) in
+    ap (λ (after : Record). outcome after slots answer) (sym before) ∙ same

@@ -1,6 +1,6 @@
 // A whole lookup.
 ghost use Prim.Native.Nat.{_≤_};
-ghost use mathlib.Core.Bool.{true, false};
+ghost use mathlib.Core.Bool.{true, false, not};
 ghost use mathlib.Core.Path.{_≡_};
 ghost use lib.ListN.{length};
 ghost use Rattle.record.specs.Parts.{withWork};
@@ -10,14 +10,13 @@ ghost use Rattle.reader_step.specs.Reader.{isIdle};
 ghost use Rattle.whole_operations.specs.Whole.{untilEnded, readerStep, wholeLookup};
 use crate::budget::left_after;
 use answers::ReaderAnswer;
-use reader_step::ReaderOutcome;
+use reader_step::Moved;
 use reader_step::reader_access;
 use reader_step::reader_advance;
 use record::Lookup;
 use record::ReaderWork;
 use record::Record;
 use record::Search;
-use record::parts::with_work;
 use refusal::Judged;
 use search::access::word_read;
 use table::judge_lookup;
@@ -44,9 +43,9 @@ fn reader_steps(
     reader: u32,
     begun: ReaderWork,
     budget: u64,
-) -> ReaderOutcome
+) -> Moved
     requires { ⌜ (inRange (length (now slots)) (withWork panel reader begun) ≡ true) × (reader ≤ 15) × (isIdle begun ≡ false) ⌝ }
-    ensures { λ r. ⌜ outcome (r .panel) (now (slots .entry)) (paperReader (r .answer)) ≡ untilEnded (readerStep reader) budget (outcome (withWork panel reader begun) (now (slots .entry)) underway) ⌝ }
+    ensures { λ r. ⌜ (outcome (withWork panel reader (r .work)) (now (slots .entry)) (paperReader (r .answer)) ≡ untilEnded (readerStep reader) budget (outcome (withWork panel reader begun) (now (slots .entry)) underway)) × (isUnderway (paperReader (r .answer)) ≡ not (isIdle (r .work))) ⌝ }
 {
     let mut work = begun;
     let mut answer = ReaderAnswer::Underway;
@@ -58,15 +57,15 @@ fn reader_steps(
         answer = next.answer;
         left = left_after(left, goes_on(answer));
     }
-    ReaderOutcome {
-        panel: with_work(panel, reader, work),
+    Moved {
+        work: work,
         answer: answer,
     }
 }
 
-// Looks a point up, from the start to the end.
-pub fn whole_lookup(panel: Record, slots: &[u64], reader: u32, point: u32) -> ReaderOutcome
-    ensures { λ r. ⌜ outcome (r .panel) (now (slots .entry)) (paperReader (r .answer)) ≡ wholeLookup panel (now (slots .entry)) reader point ⌝ }
+// Looks a point up, from the start to the end, which leaves the record as it is.
+pub fn whole_lookup(panel: Record, slots: &[u64], reader: u32, point: u32) -> ReaderAnswer
+    ensures { λ r. ⌜ outcome panel (now (slots .entry)) (paperReader r) ≡ wholeLookup panel (now (slots .entry)) reader point ⌝ }
 {
     let budget = panel.k as u64 + 1;
     let begun = ReaderWork::LookingUp(Lookup {
@@ -74,10 +73,10 @@ pub fn whole_lookup(panel: Record, slots: &[u64], reader: u32, point: u32) -> Re
         search: Search::Unread,
     });
     match judge_lookup(panel, slots.len(), reader, point) {
-        Judged::Refused(refusal) => ReaderOutcome {
-            panel: panel,
-            answer: ReaderAnswer::Refused(refusal),
-        },
-        Judged::Allowed => reader_steps(panel, slots, reader, begun, budget),
+        Judged::Refused(refusal) => ReaderAnswer::Refused(refusal),
+        Judged::Allowed => {
+            let ended = reader_steps(panel, slots, reader, begun, budget);
+            ended.answer
+        }
     }
 }

@@ -6,7 +6,6 @@ use mathlib.Core.Path.{refl, _∙_, ap}
 use native.Mathlib.Omega.{arith}
 use borrow.Author.Needs.{needs}
 use denote.Ref.{now}
-use Rattle.record.specs.declared.Record.{Record}
 use Rattle.record.specs.Parts.{withWork}
 use Rattle.record.proofs.Numbered.{mapped-length}
 use Rattle.answers.specs.Answers.{paperReader, isUnderway, outcome, underway}
@@ -14,7 +13,7 @@ use Rattle.search.specs.Access.{wordRead}
 use Rattle.reader_step.specs.Reader.{readerAdvance}
 use Rattle.whole_operations.specs.Whole.{readerStep}
 use Rattle.whole_operations.proofs.WholeLaws.{fewer, OnTheWay, arrives, moves-on}
-use Rattle.whole_operations.proofs.WholeLookup.{AtWork, stays-at-work, step-beside, given-work}
+use Rattle.whole_operations.proofs.WholeLookup.{AtWork, stays-at-work, step-beside, busy-beside, given-work}
 use Rattle.whole_operations.proofs.lookup.reader_steps.Statement.{statement}
 use Rattle.whole_operations.proofs.lookup.reader_steps.Tie as tie
 
@@ -63,20 +62,17 @@ loop-again c =
     let more = c .before .before .before .before .before .loop-test in
     let word = c .before .before .before .word-read .ensures ∙ ap (wordRead s) (c .before .before .before .before .reader-access .ensures) in
     let move = c .before .before .reader-advance .ensures ∙ ap (readerAdvance (a .panel .m) (a .panel .reach) (l .work)) word in
-    let takes = step-beside (a .panel) s (a .reader) (l .work) (paperReader (l .answer)) _ (l .inv .holds) (l .inv .goes (omega arith)) move in
+    let takes = step-beside (a .panel) s (a .reader) (l .work) (paperReader (l .answer)) (l .inv .holds) _ (l .inv .goes (omega arith)) move in
     moves-on (readerStep (a .reader)) (AtWork (a .reader)) (stays-at-work (a .reader)) _ _ (l .left) _ (l .inv) (omega arith) _ takes _
     (c .left-after .ensures ∙ ap (λ (b : Bool). cond b (l .left - 1) 0) (c .before .goes-on .ensures))
 
-with-work-requires : tie.Need-with-work-requires Inv-loop μ-loop
-with-work-requires c κs = search needs
-
 returns : tie.Need-returns Inv-loop μ-loop
 returns c =
-    let a = c .before .before .before .before .args in
-    let s = now (a .slots) in
-    let l = c .before .before .loop in
-    ap (λ (panel : Record). outcome panel s (paperReader (l .answer))) (c .with-work .ensures)
-    ∙ arrives (readerStep (a .reader)) (AtWork (a .reader)) (stays-at-work (a .reader)) _ _ (l .left) _ (l .inv) (omega (arith, c .before .loop-test))
+    let a = c .before .before .before .args in
+    let l = c .before .loop in (
+      arrives (readerStep (a .reader)) (AtWork (a .reader)) (stays-at-work (a .reader)) _ _ (l .left) _ (l .inv) (omega (arith, c .loop-test)),
+      busy-beside (a .panel) (now (a .slots)) (a .reader) (l .work) (paperReader (l .answer)) (l .inv .holds),
+    )
 
 pub reader-steps-spec : {M : Type 1} → statement M
 reader-steps-spec =
@@ -92,5 +88,4 @@ reader-steps-spec =
     left-after-requires
     loop-less
     loop-again
-    with-work-requires
     returns)

@@ -9,13 +9,14 @@ use Rattle.refusal.specs.Refusals.{numberOf, paperJudged}
 use Rattle.record.specs.declared.Search.the-variants.{Unread}
 use Rattle.record.specs.declared.ReaderWork.the-variants.{LookingUp}
 use Rattle.record.specs.Parts.{withWork}
+use Rattle.record.proofs.Numbered.{mapped-length}
 use Rattle.answers.specs.Answers.{isUnderway, outcome, unlessRefused, underway, refused, started}
 use Rattle.answers.proofs.AnswerLaws.{refused-outcome, allowed-outcome}
 use Rattle.reader_step.specs.Reader.{isIdle}
 use Rattle.table.specs.Starts.{startReader, startLookup}
 use Rattle.whole_operations.specs.Whole.{untilEnded, readerStep, wholeLookup}
 use Rattle.whole_operations.proofs.WholeLaws.{has-ended, same-step}
-use Rattle.whole_operations.proofs.WholeLookup.{begun-fits, known-reader}
+use Rattle.whole_operations.proofs.WholeLookup.{begun-fits, known-reader, leaves-record}
 use Rattle.whole_operations.proofs.lookup.whole_lookup.Statement.{statement}
 use Rattle.whole_operations.proofs.lookup.whole_lookup.Tie as tie
 
@@ -66,10 +67,12 @@ returns-2 c =
     let step = readerStep (a .reader) in
     let panel = withWork (a .panel) (a .reader) (LookingUp (record { point = a .point; search = Unread })) in
     let e = sym (c .before .before .before .judge-lookup .ensures) ∙ ap paperJudged (c .before .enum-told .given .1) in
-    c .reader-steps .ensures
+    let sixteen = mapped-length (a .panel .readers) _ 16 (c .before .before .before .before .before .before .good .0 .1 .1 .1 .1 .1 .1 .1 .0 .1 .0 .1) in
+    leaves-record (a .panel) s (a .reader) (a .point) _ _ sixteen e (c .reader-steps .ensures .1)
+    (c .reader-steps .ensures .0
     ∙ same-step step (a .panel .k + 1) (outcome panel s underway) (outcome panel s started) (omega arith) refl refl refl
     ∙ ap (untilEnded step (a .panel .k + 1))
-    (sym (ap (λ (n : ℕ). unlessRefused n (a .panel) s (outcome panel s started)) e ∙ allowed-outcome (a .panel) s (outcome panel s started)))
+    (sym (ap (λ (n : ℕ). unlessRefused n (a .panel) s (outcome panel s started)) e ∙ allowed-outcome (a .panel) s (outcome panel s started))))
 
 pub whole-lookup-spec : {M : Type 1} → statement M
 whole-lookup-spec =

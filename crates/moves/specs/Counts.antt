@@ -5,9 +5,13 @@ use lib.Dec.{eqb}
 use Rattle.record.specs.declared.Record.{Record}
 use Rattle.record.specs.Parts.{countOf, withCount}
 
--- "count index i"; "a count that would leave its range stays at its end"
+-- "a count that would leave its range stays at its end"
+abbrev pub oneMore : Record → ℕ → ℕ
+oneMore panel index = min (countOf panel index + 1) (panel .m)
+
+-- "count index i"
 unfoldable pub counted : Record → ℕ → Record
-counted panel index = withCount panel index (min (countOf panel index + 1) (panel .m))
+counted panel index = withCount panel index (oneMore panel index)
 
 -- "uncount its index i"; a count of 0 stays
 unfoldable pub uncounted : Record → ℕ → Record

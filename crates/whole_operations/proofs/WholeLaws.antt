@@ -13,6 +13,11 @@ pub fewer : (left left-after : ℕ) (goes-on : Bool) → 1 ≤ left → left-aft
 fewer left left-after true h e = omega arith
 fewer left left-after false h e = omega arith
 
+-- where a step is left, the operation goes on
+pub still : (goes-on : Bool) (left left-after : ℕ) → left-after ≡ cond goes-on (left - 1) 0 → 1 ≤ left-after → goes-on ≡ true
+still true left left-after e h = refl
+still false left left-after e h = absurd (omega arith)
+
 module _ (step : Outcome → Outcome) where
   pub one-step : (n : ℕ) (now : Outcome) → 1 ≤ n → isUnderway (now .answer) ≡ true → untilEnded step n now ≡ untilEnded step (n - 1) (step now)
   unfolding untilEnded

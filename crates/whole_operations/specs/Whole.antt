@@ -3,11 +3,13 @@ use Prim.Native.Nat.{ℕ, zero, suc, _+_, _*_}
 use mathlib.Core.Bool.{cond}
 use mathlib.Core.List.{List}
 use Rattle.record.specs.declared.Record.{Record}
+use Rattle.record.specs.Parts.{withReach, withCount}
 use Rattle.answers.specs.Answers.{isUnderway, Outcome}
 use Rattle.reader_step.specs.Reader.{stepReader}
 use Rattle.table.specs.Starts.{startLookup}
 use Rattle.writer.specs.Step.{stepWriter}
 use Rattle.writer.specs.Starts.{startPut, startChange, startRemoval}
+use Rattle.whole_operations.specs.declared.written.Written.{Written}
 
 -- as many steps as the operation takes, at most n
 unfoldable pub untilEnded : (Outcome → Outcome) → ℕ → Outcome → Outcome
@@ -37,3 +39,7 @@ wholeChange panel slots point keep flip = untilEnded writerStep (panel .k + 2) (
 -- a removal: "At most k + 3"
 unfoldable pub wholeRemoval : Record → List ℕ → ℕ → Outcome
 wholeRemoval panel slots point = untilEnded writerStep (panel .k + 3) (startRemoval panel slots point)
+
+-- the record that a put, change or removal leaves at its end: the reach, and the count of one index, or of none where that is 0
+unfoldable pub leaves : Record → Written → Record
+leaves panel written = withCount (withReach panel (written .reach)) (written .index) (written .count)

@@ -1,9 +1,14 @@
-// Whole operations, for a caller with nothing to do in between: started, and stepped to their end.
+// Whole operations, for a caller with nothing to do in between: started, and stepped to their end. They
+// hand back what they leave in the record, not the record, which would be copied for it.
 mod budget;
 mod lookup;
-mod writing;
+mod put_and_change;
+mod removing;
+mod written;
 
 pub use lookup::whole_lookup;
-pub use writing::whole_change;
-pub use writing::whole_put;
-pub use writing::whole_removal;
+pub use put_and_change::whole_change;
+pub use put_and_change::whole_put;
+pub use removing::whole_removal;
+pub use written::Written;
+pub use written::with_written;

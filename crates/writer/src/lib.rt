@@ -4,6 +4,7 @@
 mod starts;
 mod step;
 
+pub use starts::judge_start;
 pub use starts::start_change;
 pub use starts::start_put;
 pub use starts::start_removal;

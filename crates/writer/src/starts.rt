@@ -24,7 +24,7 @@ use table::StartOutcome;
 use work_ranges::is_valid_point;
 
 // Document 01's order: 1, 2, 4.
-fn judge_start(panel: Record, lent: usize, point: u32) -> Judged
+pub fn judge_start(panel: Record, lent: usize, point: u32) -> Judged
     ensures { λ r. ⌜ paperJudged r ≡ startRefusal lent panel point ⌝ }
 {
     if !is_in_range(panel, lent) {

@@ -1,9 +1,9 @@
--- `whole_operations::writing::goes_on` meets its contract, case by case.
+-- `whole_operations::written::goes_on` meets its contract, case by case.
 -- Assumes nothing.
 use borrow.Author.Needs.{needs}
 use Rattle.answers.specs.Answers.{isUnderway}
-use Rattle.whole_operations.proofs.writing.goes_on.Statement.{statement}
-use Rattle.whole_operations.proofs.writing.goes_on.Tie as tie
+use Rattle.whole_operations.proofs.written.goes_on.Statement.{statement}
+use Rattle.whole_operations.proofs.written.goes_on.Tie as tie
 
 enum-told : tie.Need-enum-told
 enum-told c = search needs

@@ -1,0 +1,127 @@
+-- What the steps of a removal do to the record besides the work: one count, of the index that it uncounts, and the reach.
+-- Assumes nothing.
+use Prim.Native.Nat.{ℕ, zero, suc, _-_}
+use mathlib.Core.Path.{_≡_, refl, ap, _∙_, sym}
+use mathlib.Core.Bool.{Bool, true, false, cond, false≢true}
+use mathlib.Core.List.{List}
+use native.Mathlib.Omega.{arith}
+use lib.ListN.{set, getD}
+use lib.Seq.{set-getD, set-set}
+use Rattle.record.specs.declared.Record.{Record}
+use Rattle.record.specs.declared.Removal.{Removal}
+use Rattle.record.specs.declared.RemovalStage.{RemovalStage}
+use Rattle.record.specs.declared.RemovalStage.the-variants.{Searching, Found as RemovalStage·Found, Lowering}
+use Rattle.record.specs.declared.WriterWork.{WriterWork}
+use Rattle.record.specs.declared.WriterWork.the-variants.{Idle, Putting, Changing, Removing}
+use Rattle.record.specs.Parts.{numbered, withNumbered, countOf, withReach, withCount}
+use Rattle.answers.specs.Answers.{Answer, removed}
+use Rattle.search.specs.declared.Searched.{Searched}
+use Rattle.search.specs.declared.Searched.the-variants.{Going, Answered}
+use Rattle.search.specs.declared.SearchAnswer.the-variants.{Found as SearchAnswer·Found, Unknown}
+use Rattle.search.specs.Search.{searchAdvance}
+use Rattle.moves.specs.declared.update.Update.the-variants.{Nothing, Reach, Uncounted}
+use Rattle.moves.specs.Counts.{uncounted, largestCounted}
+use Rattle.moves.specs.Moves.{WriterMove, isIdle, ends, updated}
+use Rattle.removal.specs.Removal.{isLast, removalAt, removalAnswered, removalSearched, removalEmpties, removalLowers, removalStageAdvance, removalAdvance}
+use Rattle.writer.specs.Step.{writerAdvance}
+use Rattle.whole_operations.specs.WholeFacts.{indexUncounted, isBefore, isToRemove}
+
+-- a removal, or nothing any more
+unfoldable pub removes : WriterWork → Bool
+removes Idle = true
+removes (Putting put) = false
+removes (Changing change) = false
+removes (Removing removal) = true
+
+-- the record held differs from the one that the removal began with in the reach and in this index's count, and in no count as long as the slot is not emptied
+pub record Kept (panel held : Record) (index : ℕ) (work : WriterWork) : Type 0 where
+  pub same : held ≡ withCount (withReach panel (held .reach)) index (countOf held index)
+  pub kind : removes work ≡ true
+  pub none : isToRemove work ≡ true → index ≡ 0
+
+-- a count replaced by itself
+recount : (list : List ℕ) (index count : ℕ) → withNumbered list index (numbered (withNumbered list index count) index 0) ≡ withNumbered list index count
+unfolding numbered withNumbered
+recount list zero count = refl
+recount list (suc i) count = sym (set-set list i count (getD (set list i count) i 0)) ∙ set-getD (set list i count) i 0
+
+no-count : (panel : Record) (index count : ℕ) → index ≡ 0 → withCount panel index count ≡ panel
+unfolding withCount withNumbered
+no-count panel zero count e = refl
+no-count panel (suc i) count e = absurd (omega arith)
+
+module _ (panel held : Record) (index : ℕ) (same : held ≡ withCount (withReach panel (held .reach)) index (countOf held index)) where
+  abbrev Keeps : WriterMove → Type 0
+  Keeps move = Kept panel (updated held (move .update)) (indexUncounted index (move .update)) (move .work)
+
+  ends-so : (answer : Answer) → Keeps (ends Nothing answer)
+  unfolding ends updated indexUncounted removes isToRemove
+  ends-so answer = record { same = same; kind = refl; none = λ h. absurd (false≢true h) }
+
+  lowers : Keeps (removalLowers held)
+  unfolding removalLowers ends updated indexUncounted removes isToRemove withReach withCount countOf
+  lowers =
+      record {
+        same = ap (λ (r : Record). withReach r (largestCounted held)) same;
+        kind = refl;
+        none = λ h. absurd (false≢true h);
+      }
+
+  module _ (none : index ≡ 0) where
+    at-stage : (removal : Removal) (stage : RemovalStage) → Keeps (removalAt removal stage Nothing)
+    unfolding removalAt updated indexUncounted removes
+    at-stage removal stage = record { same = same; kind = refl; none = λ h. none }
+
+    searched : (removal : Removal) (after : Searched) → Keeps (removalSearched removal after)
+    unfolding removalSearched removalAnswered
+    searched removal (Going search) = at-stage removal (Searching search)
+    searched removal (Answered (SearchAnswer·Found place)) = at-stage removal (RemovalStage·Found place)
+    searched removal (Answered Unknown) = ends-so _
+
+    uncounts : (i : ℕ) → uncounted held i ≡ withCount (withReach panel (uncounted held i .reach)) i (countOf (uncounted held i) i)
+    unfolding uncounted withCount countOf
+    uncounts i =
+        let first = same ∙ no-count (withReach panel (held .reach)) index (countOf held index) none in
+        let again = recount (held .counts) i (countOf held i - 1) in
+        (λ j. record { m = held .m; k = held .k; reach = held .reach; counts = sym again j; writer = held .writer; readers = held .readers; stations = held .stations })
+        ∙ ap (λ (r : Record). withCount r i (numbered (withNumbered (held .counts) i (countOf held i - 1)) i 0)) first
+
+    empties : (removal : Removal) (i : ℕ) → Keeps (removalEmpties held removal i)
+    unfolding removalEmpties removalAt ends updated indexUncounted removes isToRemove isBefore
+    empties removal i = go (isLast held i)
+      where
+        go : (last : Bool) → Keeps (cond last (removalAt removal Lowering (Uncounted i)) (ends (Uncounted i) (removed (held .reach))))
+        go true = record { same = uncounts i; kind = refl; none = λ h. absurd (false≢true h) }
+        go false = record { same = uncounts i; kind = refl; none = λ h. absurd (false≢true h) }
+
+  by-stage : (removal : Removal) (stage : RemovalStage) (word : ℕ) → (isBefore stage ≡ true → index ≡ 0) → Keeps (removalStageAdvance held removal stage word)
+  unfolding removalStageAdvance isBefore
+  by-stage removal (Searching search) word none = searched (none refl) removal (searchAdvance (held .reach) (removal .point) search word)
+  by-stage removal (RemovalStage·Found place) word none = empties (none refl) removal (place .index)
+  by-stage removal Lowering word none = lowers
+
+pub step-keeps : (panel held : Record) (index : ℕ) (work : WriterWork) (word : ℕ) → Kept panel held index work → isIdle work ≡ false → Kept panel (updated held (writerAdvance held work word .update)) (indexUncounted index (writerAdvance held work word .update)) (writerAdvance held work word .work)
+unfolding writerAdvance isIdle removes isToRemove removalAdvance
+step-keeps panel held index Idle word kept e = absurd (false≢true (sym e))
+step-keeps panel held index (Putting put) word kept e = absurd (false≢true (kept .kind))
+step-keeps panel held index (Changing change) word kept e = absurd (false≢true (kept .kind))
+step-keeps panel held index (Removing removal) word kept e = by-stage panel held index (kept .same) removal (removal .stage) word (kept .none)
+
+-- ---- a removal that begins
+pub to-remove-works : (work : WriterWork) → isToRemove work ≡ true → isIdle work ≡ false
+unfolding isToRemove isIdle
+to-remove-works Idle e = absurd (false≢true e)
+to-remove-works (Putting put) e = refl
+to-remove-works (Changing change) e = refl
+to-remove-works (Removing removal) e = refl
+
+to-remove-removes : (work : WriterWork) → isToRemove work ≡ true → removes work ≡ true
+unfolding isToRemove removes
+to-remove-removes Idle e = refl
+to-remove-removes (Putting put) e = absurd (false≢true e)
+to-remove-removes (Changing change) e = absurd (false≢true e)
+to-remove-removes (Removing removal) e = refl
+
+pub begins-kept : (panel : Record) (work : WriterWork) → isToRemove work ≡ true → Kept panel panel 0 work
+unfolding withReach withCount withNumbered
+begins-kept panel work e = record { same = refl; kind = to-remove-removes work e; none = λ h. refl }

@@ -1,0 +1,69 @@
+-- A whole operation of the writer from what its loop gives: refused, or stepped to its end, where the writer is as idle as it was before.
+-- Assumes nothing.
+use Prim.Native.Nat.{ℕ, _≤_}
+use mathlib.Core.Path.{_≡_, refl, ap, _∙_, sym, subst}
+use mathlib.Core.Bool.{true, false, not, false≢true}
+use mathlib.Core.List.{List}
+use native.Mathlib.Omega.{arith}
+use borrow.Author.Tests.{not-false}
+use lib.ListN.{length}
+use Rattle.refusal.specs.declared.Refusal.{Refusal}
+use Rattle.refusal.specs.Refusals.{numberOf}
+use Rattle.refusal.proofs.Laws.{not-refused}
+use Rattle.record.specs.declared.Record.{Record}
+use Rattle.record.specs.declared.WriterWork.{WriterWork}
+use Rattle.record.specs.declared.WriterWork.the-variants.{Idle, Putting, Changing, Removing}
+use Rattle.record.specs.Parts.{withWriter}
+use Rattle.work_ranges.specs.WorkRanges.{validPoint}
+use Rattle.record_ranges.specs.Ranges.{inRange}
+use Rattle.answers.specs.Answers.{Answer, started, underway, refused, isUnderway, Outcome, outcome, unlessRefused}
+use Rattle.answers.proofs.AnswerLaws.{refused-outcome, allowed-outcome}
+use Rattle.moves.specs.Moves.{isIdle}
+use Rattle.writer.specs.Starts.{startRefusal, startWriter}
+use Rattle.writer.specs.WriterFacts.{Begun}
+use Rattle.whole_operations.specs.Whole.{untilEnded, writerStep}
+use Rattle.whole_operations.proofs.WholeLaws.{has-ended, same-step}
+
+idle-work : (work : WriterWork) → isIdle work ≡ true → work ≡ Idle
+unfolding isIdle
+idle-work Idle e = refl
+idle-work (Putting put) e = absurd (false≢true e)
+idle-work (Changing change) e = absurd (false≢true e)
+idle-work (Removing removal) e = absurd (false≢true e)
+
+module _ (panel : Record) (slots : List ℕ) (point : ℕ) (work : WriterWork) (budget : ℕ) where
+  begun : Outcome
+  begun = outcome (withWriter panel work) slots started
+
+  pub run-refused : (refusal : Refusal) → startRefusal (length slots) panel point ≡ numberOf refusal → outcome panel slots (refused (numberOf refusal)) ≡ untilEnded writerStep budget (startWriter panel slots point work)
+  unfolding startWriter isUnderway begun
+  run-refused refusal e =
+      let stopped = ap (λ (n : ℕ). unlessRefused n panel slots begun) e ∙ refused-outcome panel slots begun refusal in
+      sym (has-ended writerStep budget (outcome panel slots (refused (numberOf refusal))) refl) ∙ ap (untilEnded writerStep budget) (sym stopped)
+
+  module _ (e : startRefusal (length slots) panel point ≡ 0) where
+    allowed : startWriter panel slots point work ≡ begun
+    unfolding startWriter begun
+    allowed = ap (λ (n : ℕ). unlessRefused n panel slots begun) e ∙ allowed-outcome panel slots begun
+
+    was-idle : panel .writer ≡ Idle
+    unfolding startRefusal
+    was-idle =
+        let after-1 = not-refused (not (inRange (length slots) panel)) 1 _ (omega arith) e in
+        let after-2 = not-refused (not (validPoint point)) 2 _ (omega arith) (after-1 .1) in
+        let after-4 = not-refused (not (isIdle (panel .writer))) 4 0 (omega arith) (after-2 .1) in
+        idle-work (panel .writer) (not-false (isIdle (panel .writer)) (after-4 .0))
+
+    pub begun-fits : Begun (startWriter panel slots point work) → inRange (length slots) (withWriter panel work) ≡ true
+    unfolding isUnderway begun
+    begun-fits h = subst Begun allowed h .fits refl
+
+    pub run-ended : (after : Record) (last : WriterWork) (stored : List ℕ) (answer : Answer) → after .writer ≡ panel .writer → 1 ≤ budget → isUnderway answer ≡ not (isIdle last) → isUnderway (untilEnded writerStep budget (startWriter panel slots point work) .answer) ≡ false → outcome (withWriter after last) stored answer ≡ untilEnded writerStep budget (outcome (withWriter panel work) slots underway) → outcome after stored answer ≡ untilEnded writerStep budget (startWriter panel slots point work)
+    unfolding withWriter isUnderway begun writerStep
+    run-ended after last stored answer same-writer h busy ends ran =
+        let same =
+        ran
+        ∙ same-step writerStep budget (outcome (withWriter panel work) slots underway) begun h refl refl refl
+        ∙ ap (untilEnded writerStep budget) (sym allowed) in
+        let idle = idle-work last (not-false (isIdle last) (sym busy ∙ ap (λ (now : Outcome). isUnderway (now .answer)) same ∙ ends)) in
+        ap (λ (w : WriterWork). outcome (withWriter after w) stored answer) (same-writer ∙ was-idle ∙ sym idle) ∙ same

@@ -1,0 +1,59 @@
+-- `whole_operations::put_and_change::access` meets its contract, case by case; a removal is none of the cases.
+-- Assumes nothing.
+use mathlib.Core.Bool.{false≢true}
+use mathlib.Core.Path.{_∙_, sym, ap}
+use borrow.Author.Needs.{needs}
+use Rattle.record.specs.Parts.{withReach}
+use Rattle.writer.specs.Step.{writerAccess}
+use Rattle.whole_operations.specs.WholeFacts.{putsOrChanges}
+use Rattle.whole_operations.proofs.put_and_change.access.Statement.{statement}
+use Rattle.whole_operations.proofs.put_and_change.access.Tie as tie
+
+enum-told : tie.Need-enum-told
+enum-told c = search needs
+
+enum-known-work : tie.Need-enum-known-work
+enum-known-work c = search needs
+
+put-access-requires : tie.Need-put-access-requires
+put-access-requires c κs = search needs
+
+enum-known-work-2 : tie.Need-enum-known-work-2
+enum-known-work-2 c = search needs
+
+change-access-requires : tie.Need-change-access-requires
+change-access-requires c κs = search needs
+
+enum-told-2 : tie.Need-enum-told-2
+enum-told-2 c = search needs
+
+returns : tie.Need-returns
+unfolding writerAccess withReach
+returns c = rw (c .enum-told .given .1)
+
+returns-2 : tie.Need-returns-2
+unfolding writerAccess withReach
+returns-2 c = rw (c .before .before .work .given .1) (c .put-access .ensures)
+
+returns-3 : tie.Need-returns-3
+unfolding writerAccess withReach
+returns-3 c = rw (c .before .before .work2 .given .1) (c .change-access .ensures)
+
+returns-4 : tie.Need-returns-4
+unfolding putsOrChanges
+returns-4 c = absurd (false≢true (sym (ap putsOrChanges (c .enum-told2 .given .1)) ∙ c .before .before .pre))
+
+pub access-spec : {M : Type 1} → statement M
+access-spec =
+    tie.close
+    (tie.spec
+    enum-told
+    enum-known-work
+    put-access-requires
+    enum-known-work-2
+    change-access-requires
+    enum-told-2
+    returns
+    returns-2
+    returns-3
+    returns-4)

@@ -1,0 +1,123 @@
+-- `whole_operations::put_and_change::steps` meets its contract: what is left to do from here comes to the same as the whole, for the record with the
+-- reach and the index that are kept beside it.
+-- Assumes nothing.
+use Prim.Native.Nat.{ℕ, _-_, _≤_}
+use mathlib.Core.Bool.{Bool, true, cond, not}
+use mathlib.Core.Path.{_≡_, refl, _∙_, sym, ap}
+use native.Mathlib.Omega.{arith}
+use borrow.Author.Needs.{needs}
+use lib.ListN.{length}
+use Rattle.record.specs.declared.Record.{Record}
+use Rattle.record.specs.Parts.{withReach, withNumbered, withCount, withWriter, countOf}
+use Rattle.answers.specs.Answers.{underway, isUnderway, outcome, paperWriter}
+use Rattle.moves.specs.Counts.{counted}
+use Rattle.moves.specs.Moves.{updated, paperMoved}
+use Rattle.writer.proofs.WriterLaws.{slots-length, AtWork}
+use Rattle.whole_operations.specs.Whole.{writerStep, leaves}
+use Rattle.whole_operations.specs.WholeFacts.{putsOrChanges, indexCounted}
+use Rattle.whole_operations.proofs.WholeLaws.{fewer, still, OnTheWay, arrives, moves-on}
+use Rattle.whole_operations.proofs.WholeEnds.{stays-at-work}
+use Rattle.whole_operations.proofs.WorkBeside.{step-beside}
+use Rattle.whole_operations.proofs.PutsAndChanges.{move-adds, step-kept}
+use Rattle.whole_operations.proofs.put_and_change.steps.Statement.{statement}
+use Rattle.whole_operations.proofs.put_and_change.steps.Tie as tie
+
+abbrev Inv-loop : tie.InvT-loop
+Inv-loop panel slots₀ budget reach₀ index₀ work₀ answer₀ left₀ slots reach index work answer left =
+    (length slots ≡ length slots₀)
+    × OnTheWay writerStep AtWork (outcome (withWriter panel work₀) slots₀ underway) budget left
+    (outcome (withWriter (counted (withReach panel reach) index) work) slots (paperWriter answer))
+    × (1 ≤ left → index ≡ 0)
+    × (putsOrChanges work ≡ true)
+
+abbrev μ-loop : tie.MeasureT-loop
+μ-loop panel slots₀ budget reach₀ index₀ work₀ answer₀ left₀ slots reach index work answer left = left
+
+loop-holds : tie.Need-loop-holds Inv-loop μ-loop
+unfolding isUnderway withWriter withReach counted withCount withNumbered
+loop-holds c = 
+    (
+      refl,
+      record { holds = record { fits = c .before .pre .0; busy = ap not (sym (c .before .pre .1)) }; goes = λ h. refl; same = refl },
+      λ h. refl,
+      c .before .pre .2,
+    )
+
+access-requires : tie.Need-access-requires Inv-loop μ-loop
+access-requires c κs = c .before .before .loop .inv .3
+
+perform-requires : tie.Need-perform-requires Inv-loop μ-loop
+perform-requires c κs = search needs
+
+advance-requires : tie.Need-advance-requires Inv-loop μ-loop
+advance-requires c κs = c .before .before .before .before .before .before .loop .inv .3
+
+reach-after-requires : tie.Need-reach-after-requires Inv-loop μ-loop
+reach-after-requires c κs = search needs
+
+index-counted-requires : tie.Need-index-counted-requires Inv-loop μ-loop
+index-counted-requires c κs = search needs
+
+goes-on-requires : tie.Need-goes-on-requires Inv-loop μ-loop
+goes-on-requires c κs = search needs
+
+left-after-requires : tie.Need-left-after-requires Inv-loop μ-loop
+left-after-requires c κs = omega (arith, c .before .before .before .before .before .before .before .before .before .loop-test)
+
+loop-less : tie.Need-loop-less Inv-loop μ-loop
+loop-less c = fewer (c .before .before .before .before .before .before .before .before .before .before .before .loop .left) _ (c .before .goes-on .result) (omega (arith, c .before .before .before .before .before .before .before .before .before .before .loop-test)) (c .left-after .ensures)
+
+loop-again : tie.Need-loop-again Inv-loop μ-loop
+loop-again c = 
+    let a = c .before .before .before .before .before .before .before .before .before .before .before .before .before .args in
+    let l = c .before .before .before .before .before .before .before .before .before .before .before .loop in
+    let more = c .before .before .before .before .before .before .before .before .before .before .loop-test in
+    let none = l .inv .2 (omega arith) in
+    let move = c .before .before .before .before .advance in
+    let adds = move-adds (withReach (a .panel) (l .reach)) (l .work) _ (paperMoved (move .result)) (l .inv .3) (move .ensures) in
+    let takes =
+    step-kept (a .panel) (l .reach) (l .index) _ _ (l .slots) _ (l .work) (paperWriter (l .answer)) _ _ (paperMoved (move .result)) none adds
+    (l .inv .1 .holds) (l .inv .1 .goes (omega arith)) (c .before .before .before .before .before .before .before .before .access .ensures) (c .before .before .before .before .before .before .before .perform .ensures .0) (c .before .before .before .before .before .before .before .perform .ensures .1) (move .ensures)
+    (c .before .before .before .reach-after .ensures) (c .before .before .index-counted .ensures) in
+    let next = c .left-after .ensures ∙ ap (λ (b : Bool). cond b (l .left - 1) 0) (c .before .goes-on .ensures) in (
+      ap length (c .before .before .before .before .before .before .before .perform .ensures .1) ∙ slots-length (l .slots) _ ∙ l .inv .0,
+      moves-on writerStep AtWork stays-at-work _ _ (l .left) _ (l .inv .1) (omega arith) _ takes _ next,
+      λ h. c .before .before .index-counted .ensures ∙ adds .last (still (isUnderway (paperWriter (move .result .answer))) _ _ next h),
+      adds .same-kind,
+    )
+
+one-more-requires : tie.Need-one-more-requires Inv-loop μ-loop
+one-more-requires c κs = search needs
+
+same-length : tie.Need-same-length Inv-loop μ-loop
+same-length c = c .before .before .loop .inv .0
+
+returns : tie.Need-returns Inv-loop μ-loop
+unfolding leaves counted withReach withWriter withCount countOf
+returns c = 
+    let a = c .before .before .before .before .args in
+    let l = c .before .before .loop in (
+      ap (λ (count : ℕ). outcome (withWriter (withCount (withReach (a .panel) (l .reach)) (l .index) count) (l .work)) (l .slots) (paperWriter (l .answer))) (c .one-more .ensures)
+      ∙ arrives writerStep AtWork stays-at-work _ _ (l .left) _ (l .inv .1) (omega (arith, c .before .loop-test)),
+      l .inv .1 .holds .busy,
+    )
+
+pub steps-spec : {M : Type 1} → statement M
+steps-spec =
+    tie.close
+    (tie.spec
+    Inv-loop
+    μ-loop
+    loop-holds
+    access-requires
+    perform-requires
+    advance-requires
+    reach-after-requires
+    index-counted-requires
+    goes-on-requires
+    left-after-requires
+    loop-less
+    loop-again
+    one-more-requires
+    same-length
+    returns)

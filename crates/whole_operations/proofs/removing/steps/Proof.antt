@@ -1,0 +1,138 @@
+-- `whole_operations::removing::steps` meets its contract: what is left to do from here comes to the same as the whole, and the record held is the first
+-- one but for the reach and one count.
+-- Assumes nothing.
+use Prim.Native.Nat.{ℕ, _-_}
+use mathlib.Core.Bool.{Bool, cond, not}
+use mathlib.Core.Logic.{⊎-elim}
+use mathlib.Core.Path.{_≡_, refl, _∙_, sym, ap, transport}
+use native.Mathlib.Omega.{arith}
+use borrow.Author.Needs.{needs}
+use lib.ListN.{length}
+use Rattle.record.specs.declared.Record.{Record}
+use Rattle.record.specs.Parts.{withReach, withNumbered, withCount, withWriter}
+use Rattle.answers.specs.Answers.{underway, isUnderway, outcome, paperWriter}
+use Rattle.moves.specs.Moves.{WriterMove, updated, paperMoved}
+use Rattle.writer.proofs.WriterLaws.{slots-length, AtWork, works}
+use Rattle.whole_operations.specs.Whole.{writerStep, leaves}
+use Rattle.whole_operations.specs.WholeFacts.{indexUncounted}
+use Rattle.whole_operations.proofs.WholeLaws.{fewer, OnTheWay, arrives, moves-on}
+use Rattle.whole_operations.proofs.WholeEnds.{stays-at-work}
+use Rattle.whole_operations.proofs.WorkBeside.{step-beside}
+use Rattle.whole_operations.proofs.Removals.{Kept, begins-kept, to-remove-works, step-keeps}
+use Rattle.whole_operations.proofs.removing.steps.Statement.{statement}
+use Rattle.whole_operations.proofs.removing.steps.Tie as tie
+
+abbrev Inv-loop : tie.InvT-loop
+Inv-loop slots₀ budget held₀ index₀ work₀ answer₀ left₀ slots held index work answer left =
+    (length slots ≡ length slots₀)
+    × OnTheWay writerStep AtWork (outcome (withWriter held₀ work₀) slots₀ underway) budget left (outcome (withWriter held work) slots (paperWriter answer))
+    × Kept held₀ held index work
+
+abbrev μ-loop : tie.MeasureT-loop
+μ-loop slots₀ budget held₀ index₀ work₀ answer₀ left₀ slots held index work answer left = left
+
+loop-holds : tie.Need-loop-holds Inv-loop μ-loop
+unfolding isUnderway withWriter
+loop-holds c =
+    let a = c .before .args in
+    let p = c .before .pre in (
+      refl,
+      record {
+        holds = record { fits = p .0; busy = ap not (sym (to-remove-works (a .begun) (p .1))) };
+        goes = λ h. refl;
+        same = refl;
+      },
+      begins-kept (a .panel) (a .begun) (p .1),
+    )
+
+writer-access-requires : tie.Need-writer-access-requires Inv-loop μ-loop
+writer-access-requires c κs = search needs
+
+perform-requires : tie.Need-perform-requires Inv-loop μ-loop
+perform-requires c κs = search needs
+
+writer-advance-requires : tie.Need-writer-advance-requires Inv-loop μ-loop
+writer-advance-requires c κs = search needs
+
+enum-told : tie.Need-enum-told Inv-loop μ-loop
+enum-told c = search needs
+
+with-update-requires : tie.Need-with-update-requires Inv-loop μ-loop
+with-update-requires c κs = search needs
+
+index-uncounted-requires : tie.Need-index-uncounted-requires Inv-loop μ-loop
+index-uncounted-requires c κs = search needs
+
+goes-on-requires : tie.Need-goes-on-requires Inv-loop μ-loop
+goes-on-requires c κs = search needs
+
+left-after-requires : tie.Need-left-after-requires Inv-loop μ-loop
+left-after-requires c κs = omega (arith, c .before .before .before .before .before .before .before .before .before .loop-test)
+
+loop-less : tie.Need-loop-less Inv-loop μ-loop
+loop-less c = fewer (c .before .before .before .before .before .before .before .before .before .before .before .loop .left) _ (c .before .goes-on .result) (omega (arith, c .before .before .before .before .before .before .before .before .before .before .loop-test)) (c .left-after .ensures)
+
+loop-again : tie.Need-loop-again Inv-loop μ-loop
+unfolding updated withWriter
+loop-again c =
+    let panel = c .before .before .before .before .before .before .before .before .before .before .before .before .before .args .panel in
+    let l = c .before .before .before .before .before .before .before .before .before .before .before .loop in
+    let more = c .before .before .before .before .before .before .before .before .before .before .loop-test in
+    let stored = c .before .before .before .before .before .before .before .perform .ensures in
+    let advances = c .before .before .before .before .writer-advance in
+    let goes = l .inv .1 .goes (omega arith) in
+    let updates =
+    ⊎-elim
+    (λ kept. kept .2 ∙ sym (ap (updated (l .held)) (kept .1 .given .1)))
+    (λ new. new .2 ∙ new .1 .ensures)
+    (c .before .before .before .match .came) in
+    let takes =
+    step-beside (l .held) (c .before .before .before .match .held) (l .slots) _ (l .work) (paperWriter (l .answer)) _ _ (paperMoved (advances .result)) (l .inv .1 .holds) goes
+    (c .before .before .before .before .before .before .before .before .writer-access .ensures) (stored .0) (stored .1) (advances .ensures) updates in
+    let kept = step-keeps panel (l .held) (l .index) (l .work) _ (l .inv .2) (works _ (l .inv .1 .holds) goes) in
+    let moves = advances .ensures in
+    let held = updates ∙ ap (λ (m : WriterMove). updated (l .held) (m .update)) moves in
+    let index = c .before .before .index-uncounted .ensures ∙ ap (λ (m : WriterMove). indexUncounted (l .index) (m .update)) moves in (
+      ap length (stored .1) ∙ slots-length (l .slots) _ ∙ l .inv .0,
+      moves-on writerStep AtWork stays-at-work _ _ (l .left) _ (l .inv .1) (omega arith) _ takes _
+          (c .left-after .ensures ∙ ap (λ (b : Bool). cond b (l .left - 1) 0) (c .before .goes-on .ensures)),
+      transport (λ j. Kept panel (sym held j) (sym index j) (sym moves j .work)) kept,
+    )
+
+count-of-requires : tie.Need-count-of-requires Inv-loop μ-loop
+count-of-requires c κs = search needs
+
+same-length : tie.Need-same-length Inv-loop μ-loop
+same-length c = c .before .before .loop .inv .0
+
+returns : tie.Need-returns Inv-loop μ-loop
+unfolding leaves withWriter
+returns c =
+    let a = c .before .before .before .before .args in
+    let l = c .before .before .loop in
+    let held = l .inv .2 .same ∙ ap (λ (count : ℕ). withCount (withReach (a .panel) (l .held .reach)) (l .index) count) (sym (c .count-of .ensures)) in (
+      ap (λ (r : Record). outcome (withWriter r (l .work)) (l .slots) (paperWriter (l .answer))) (sym held)
+      ∙ arrives writerStep AtWork stays-at-work _ _ (l .left) _ (l .inv .1) (omega (arith, c .before .loop-test)),
+      l .inv .1 .holds .busy,
+    )
+
+pub steps-spec : {M : Type 1} → statement M
+steps-spec =
+    tie.close
+    (tie.spec
+    Inv-loop
+    μ-loop
+    loop-holds
+    writer-access-requires
+    perform-requires
+    writer-advance-requires
+    enum-told
+    with-update-requires
+    index-uncounted-requires
+    goes-on-requires
+    left-after-requires
+    loop-less
+    loop-again
+    count-of-requires
+    same-length
+    returns)

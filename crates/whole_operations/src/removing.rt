@@ -1,0 +1,95 @@
+// A whole removal. Its last steps look at the counts, so that it keeps a record of its own.
+ghost use Prim.Native.Nat.{_≤_};
+ghost use mathlib.Core.Bool.{true, false, not};
+ghost use mathlib.Core.Path.{_≡_};
+ghost use lib.ListN.{length};
+ghost use Rattle.record.specs.Parts.{withWriter};
+ghost use Rattle.record_ranges.specs.Ranges.{inRange};
+ghost use Rattle.answers.specs.Answers.{paperWriter, isUnderway, outcome, underway};
+ghost use Rattle.moves.specs.Moves.{isIdle};
+ghost use Rattle.whole_operations.specs.Whole.{untilEnded, writerStep, wholeRemoval, leaves};
+ghost use Rattle.whole_operations.specs.WholeFacts.{indexUncounted, isToRemove};
+use crate::budget::left_after;
+use crate::written::Ran;
+use crate::written::Written;
+use crate::written::goes_on;
+use crate::written::refused;
+use answers::WriterAnswer;
+use moves::memory::perform;
+use moves::update::Update;
+use moves::update::with_update;
+use record::Record;
+use record::Removal;
+use record::RemovalStage;
+use record::Search;
+use record::WriterWork;
+use record::parts::count_of;
+use refusal::Judged;
+use writer::judge_start;
+use writer::writer_access;
+use writer::writer_advance;
+
+// The index that one point less uses, or the one before.
+fn index_uncounted(index: u32, update: Update) -> u32
+    ensures { λ r. ⌜ r ≡ indexUncounted index update ⌝ }
+{
+    match update {
+        Update::Nothing => index,
+        Update::Reach(_) => index,
+        Update::Counted(_) => index,
+        Update::Uncounted(uncounted) => uncounted,
+        Update::Answered(_) => index,
+    }
+}
+
+// Steps of a removal, to the end or as many as the budget allows. The record was judged when the
+// removal was started, and every step keeps it in range, so that no step needs to judge it again.
+fn steps(panel: Record, slots: &mut [u64], begun: WriterWork, budget: u64) -> Ran
+    requires { ⌜ (inRange (length (now slots)) (withWriter panel begun) ≡ true) × (isToRemove begun ≡ true) ⌝ }
+    ensures { λ r. ⌜ (outcome (withWriter (leaves panel (r .written)) (r .work)) (now (slots .exit)) (paperWriter (r .written .answer)) ≡ untilEnded writerStep budget (outcome (withWriter panel begun) (now (slots .entry)) underway)) × (isUnderway (paperWriter (r .written .answer)) ≡ not (isIdle (r .work))) ⌝ }
+{
+    let mut held = panel;
+    let mut index = 0;
+    let mut work = begun;
+    let mut answer = WriterAnswer::Underway;
+    let mut left = budget;
+    while 0 < left {
+        let word = perform(slots, writer_access(held, work));
+        let next = writer_advance(held, work, word);
+        work = next.work;
+        answer = next.answer;
+        let update = next.update;
+        if let Update::Nothing = update {} else {
+            held = with_update(held, update);
+        }
+        index = index_uncounted(index, update);
+        left = left_after(left, goes_on(answer));
+    }
+    Ran {
+        written: Written {
+            reach: held.reach,
+            index: index,
+            count: count_of(held, index),
+            answer: answer,
+        },
+        work: work,
+    }
+}
+
+// Removes a point, from the start to the end.
+pub fn whole_removal(panel: Record, slots: &mut [u64], point: u32) -> Written
+    ensures { λ r. ⌜ outcome (leaves panel r) (now (slots .exit)) (paperWriter (r .answer)) ≡ wholeRemoval panel (now (slots .entry)) point ⌝ }
+{
+    let budget = panel.k as u64 + 3;
+    let work = WriterWork::Removing(Removal {
+        point: point,
+        stage: RemovalStage::Searching(Search::Unread),
+    });
+    match judge_start(panel, slots.len(), point) {
+        Judged::Refused(refusal) => refused(panel, refusal),
+        Judged::Allowed => {
+            let ran = steps(panel, slots, work, budget);
+            ran.written
+        }
+    }
+}

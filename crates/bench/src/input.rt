@@ -1,82 +1,103 @@
 // Standard input, a buffer at a time, and its lines.
 use line::Field;
+use line::Fields;
 use line::Line;
+use line::part_of;
 
-// A part of a line: all that the buffer has of it. The next byte to read, of the count in the buffer.
-pub(crate) struct Part {
+// The line that is read, as far as the buffer has it.
+pub(crate) struct Reading {
     pub line: Line,
-    // its line end was read
+    // nothing of it is left to be read
     pub is_whole: bool,
-    pub next: usize,
-    pub count: usize,
+    // the input has ended
+    pub is_last: bool,
+    // the next byte to read, of the count in the buffer
+    next: usize,
+    count: usize,
 }
 
 // One read of standard input; 0 at its end.
-pub(crate) fn read(bytes: &mut [u8]) -> usize {
+fn read(bytes: &mut [u8]) -> usize {
     let got = libc::read(libc::STDIN_FILENO, bytes);
     io::count(got, bytes)
 }
 
-// The line goes on with the bytes of the buffer from `from` on, up to its line end.
-pub(crate) fn next_part(bytes: &[u8], line: Line, from: usize, count: usize) -> Part {
-    let mut part = line;
-    let mut i = from;
-    while i < count {
-        if i >= bytes.len() {
-            break;
-        }
-        let byte = bytes[i];
-        i += 1;
-        if byte == 10 {
-            return Part {
-                line: part,
-                is_whole: true,
-                next: i,
-                count: count,
-            };
-        }
-        part = line::more(part, byte);
-    }
-    Part {
-        line: part,
-        is_whole: false,
-        next: i,
+// The line goes on with the bytes of the buffer from `from` on.
+fn read_from(bytes: &[u8], line: Line, from: usize, count: usize, is_last: bool) -> Reading {
+    let part = part_of(bytes, line, from, count);
+    let read = part.line;
+    Reading {
+        line: read,
+        is_whole: part.whole,
+        is_last: is_last,
+        next: part.next,
         count: count,
     }
 }
 
-// Line 1, without its line end. It is missing where the input is empty, and then it cannot be read.
-pub(crate) fn first_line(bytes: &mut [u8]) -> Part {
+// The line goes on with what is read next. At the end of the input "the last line needs no line end":
+// what follows the last line end is a line, if it is not empty.
+pub(crate) fn read_on(bytes: &mut [u8], reading: Reading) -> Reading {
+    let line = reading.line;
     let count = read(bytes);
-    let mut part = next_part(bytes, line::begin(), 0, count);
-    let mut turns = u64::MAX;
-    while turns > 0 {
-        if part.is_whole {
-            return part;
-        }
-        let more = read(bytes);
-        if more == 0 {
-            return part;
-        }
-        let line = part.line;
-        part = next_part(bytes, line, 0, more);
-        turns -= 1;
+    if count > 0 {
+        return read_from(bytes, line, 0, count, false);
     }
-    part
+    Reading {
+        line: line,
+        is_whole: is_begun(line),
+        is_last: true,
+        next: 0,
+        count: 0,
+    }
 }
 
-// What stands behind the first line; where that has no line end, nothing does.
-pub(crate) fn first_part(bytes: &[u8], first: Part) -> Part {
-    next_part(bytes, line::begin(), first.next, first.count)
+// Line 1. It is missing where the input is empty, and then it cannot be read.
+pub(crate) fn first_line(bytes: &mut [u8]) -> Reading {
+    let mut reading = read_from(bytes, line::begin(), 0, 0, false);
+    let mut turns = u64::MAX;
+    while turns > 0 {
+        reading = read_on(bytes, reading);
+        if reading.is_whole {
+            return reading;
+        }
+        if reading.is_last {
+            return reading;
+        }
+        turns -= 1;
+    }
+    reading
+}
+
+// The line behind one that is whole. Behind the last one there is none.
+pub(crate) fn line_after(bytes: &[u8], reading: Reading) -> Reading {
+    read_from(
+        bytes,
+        line::begin(),
+        reading.next,
+        reading.count,
+        reading.is_last,
+    )
+}
+
+// No line is left.
+pub(crate) fn is_over(reading: Reading) -> bool {
+    if reading.is_whole {
+        false
+    } else {
+        reading.is_last
+    }
 }
 
 // The line has a byte.
-pub(crate) fn is_begun(line: Line) -> bool {
-    match line {
-        Line::One(field) => is_filled(field),
-        Line::Two(_, _) => true,
-        Line::Three(_, _, _) => true,
-        Line::TooMany => true,
+fn is_begun(line: Line) -> bool {
+    let ended = line.ended;
+    let last = line.last;
+    match ended {
+        Fields::Nothing => is_filled(last),
+        Fields::One(_) => true,
+        Fields::Two(_, _) => true,
+        Fields::TooMany => true,
     }
 }
 

@@ -5,15 +5,15 @@ mod output;
 mod printing;
 
 use answers::FreshAnswer;
-use commands::BenchState;
 use commands::run_line;
-use input::Part;
-use input::first_part;
-use input::is_begun;
-use input::next_part;
-use input::read;
-use line::Line;
+use input::Reading;
+use input::first_line;
+use input::is_over;
+use input::line_after;
+use input::read_on;
 use line::SizesLine;
+use record::Record;
+use refusal::tests::is_within;
 use table::fresh;
 
 fn main() {
@@ -33,7 +33,7 @@ fn with_output(slots: &mut [u64], bytes: &mut [u8]) {
 
 // Line 1, and the panel that it asks for.
 fn bench(slots: &mut [u64], bytes: &mut [u8], text: &mut [u8]) {
-    let first = input::first_line(bytes);
+    let first = first_line(bytes);
     let line = first.line;
     match line::sizes_of(line) {
         SizesLine::Unreadable => refuse(text),
@@ -42,7 +42,14 @@ fn bench(slots: &mut [u64], bytes: &mut [u8], text: &mut [u8]) {
 }
 
 // As many slots as asked for; more than there are is refused.
-fn with_sizes(slots: &mut [u64], bytes: &mut [u8], text: &mut [u8], first: Part, m: u32, k: u32) {
+fn with_sizes(
+    slots: &mut [u64],
+    bytes: &mut [u8],
+    text: &mut [u8],
+    first: Reading,
+    m: u32,
+    k: u32,
+) {
     let asked = m as usize;
     if asked <= slots.len() {
         with_panel(&mut slots[..asked], bytes, text, first, m, k);
@@ -51,19 +58,22 @@ fn with_sizes(slots: &mut [u64], bytes: &mut [u8], text: &mut [u8], first: Part,
     }
 }
 
-fn with_panel(slots: &mut [u64], bytes: &mut [u8], text: &mut [u8], first: Part, m: u32, k: u32) {
+fn with_panel(
+    slots: &mut [u64],
+    bytes: &mut [u8],
+    text: &mut [u8],
+    first: Reading,
+    m: u32,
+    k: u32,
+) {
     let made = fresh(slots, m, k);
     let answer = made.answer;
     let panel = made.panel;
     match answer {
         FreshAnswer::Refused(_) => refuse(text),
         FreshAnswer::Made => {
-            let begun = BenchState {
-                panel: panel,
-                number: 1,
-                filled: printing::panel(0, text, m, k),
-            };
-            end_run(run_lines(begun, first, slots, bytes, text), slots, text);
+            let filled = printing::panel(0, text, m, k);
+            run_lines(panel, slots, first, bytes, filled, text);
         }
     }
 }
@@ -74,86 +84,44 @@ fn refuse(text: &mut [u8]) {
     output::flush(filled, text);
 }
 
-// Every line behind the first. Such a loop has to end, and nothing says that the input does: it counts
-// its turns down, from a number that no run uses up.
+// Every line behind the first. The record stays in this function, and a line alters it in place: a
+// function that took and gave it would copy it. Such a loop has to end, and nothing says that the input
+// does: it counts its turns down, from a number that no run uses up.
 fn run_lines(
-    begun: BenchState,
-    first: Part,
+    begun: Record,
     slots: &mut [u64],
+    first: Reading,
     bytes: &mut [u8],
+    printed: usize,
     text: &mut [u8],
-) -> Ran {
-    let mut ran = run_whole_lines(begun, first_part(bytes, first), slots, bytes, text);
+) {
+    let mut panel = begun;
+    let mut reading = line_after(bytes, first);
+    let mut number = 1u64;
+    let mut filled = printed;
     let mut turns = u64::MAX;
     while turns > 0 {
-        let count = read(bytes);
-        if count == 0 {
-            return ran;
+        if reading.is_whole {
+            number = std::num::wrapping_add_u64(number, 1);
+            let line = reading.line;
+            let done = run_line(panel, slots, line, number, filled, text);
+            panel.reach = done.reach;
+            if is_within(1, done.index, 64) {
+                panel.counts[(done.index - 1) as usize] = done.count;
+            }
+            filled = done.filled;
+            reading = line_after(bytes, reading);
+        } else {
+            reading = read_on(bytes, reading);
         }
-        let now = ran.state;
-        let line = ran.line;
-        let part = next_part(bytes, line, 0, count);
-        ran = run_whole_lines(now, part, slots, bytes, text);
-        turns -= 1;
+        turns = if is_over(reading) { 0 } else { turns - 1 };
     }
-    ran
-}
-
-// The state after the lines that the buffer has whole, and the line of which it has only a part.
-struct Ran {
-    state: BenchState,
-    line: Line,
-}
-
-fn run_whole_lines(
-    begun: BenchState,
-    first: Part,
-    slots: &mut [u64],
-    bytes: &[u8],
-    text: &mut [u8],
-) -> Ran {
-    let mut now = begun;
-    let mut part = first;
-    let mut turns = u64::MAX;
-    while turns > 0 {
-        let line = part.line;
-        if !part.is_whole {
-            return Ran {
-                state: now,
-                line: line,
-            };
-        }
-        now = run_line(now, line, slots, text);
-        part = next_part(bytes, line::begin(), part.next, part.count);
-        turns -= 1;
-    }
-    Ran {
-        state: now,
-        line: line::begin(),
-    }
-}
-
-// The input has ended. "The last line needs no line end"; what follows the last line end is a line only
-// if it is not empty.
-fn end_run(ran: Ran, slots: &mut [u64], text: &mut [u8]) {
-    let now = ran.state;
-    let line = ran.line;
-    if is_begun(line) {
-        finish(run_line(now, line, slots, text), slots, text);
-    } else {
-        finish(now, slots, text);
-    }
+    finish(panel.reach, slots, filled, text);
 }
 
 // The last printed line: the reach and the number of stored points.
-fn finish(ended: BenchState, slots: &[u64], text: &mut [u8]) {
-    let panel = ended.panel;
-    let room = output::room(ended.filled, text);
-    let filled = printing::finish(
-        room,
-        text,
-        panel.reach,
-        slot_words::taken::taken_slots(slots) as u64,
-    );
+fn finish(reach: u32, slots: &[u64], held: usize, text: &mut [u8]) {
+    let points = slot_words::taken::taken_slots(slots) as u64;
+    let filled = printing::finish(output::room(held, text), text, reach, points);
     output::flush(filled, text);
 }

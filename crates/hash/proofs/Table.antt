@@ -2,14 +2,15 @@
 -- Assumes nothing.
 use Prim.Native.Nat.{ℕ, zero, suc, _+_, _-_, _*_, _≤_, _<_}
 use mathlib.Core.Path.{_≡_, refl, sym, ap, _∙_}
-use mathlib.Core.Bool.{and-eq-true-iff, true}
+use mathlib.Core.Bool.{Bool, and-eq-true-iff, true, false}
 use mathlib.Core.List.{List, [], _∷_}
 use native.Mathlib.Nat.{add-zero, zero-add, add-suc, suc-add, le-of-suc-le-suc, not-suc-le-zero}
 use native.Mathlib.Numerals.{add-one}
 use native.Mathlib.Omega.{arith}
-use borrow.Author.Tests.{eqb-true}
+use borrow.Author.Tests.{eqb-true, eqb-false}
 use lib.Dec.{eqb}
-use lib.ListN.{length, getD}
+use lib.ListN.{length, getD, set}
+use lib.Seq.{getD-set-same, getD-set-other}
 use Rattle.hash.specs.Position.{nextOf, z}
 use Rattle.hash.specs.Table.{follows, isTable}
 
@@ -38,9 +39,19 @@ entry xs t k h =
     from xs 0 1 refl (and-eq-true-iff (eqb (length xs) 128) (follows 1 xs) .0 t .1) k (omega (arith, table-length xs t))
     ∙ ap z (ap suc (zero-add k) ∙ sym (add-one k))
 
--- the two entries of function i are z(2i - 1) and z(2i)
-pub of-function : (xs : List ℕ) → isTable xs ≡ true → (i : ℕ) → 1 ≤ i → i ≤ 64 → (getD xs (2 * i - 2) 0 ≡ z (2 * i - 1)) × (getD xs (2 * i - 2 + 1) 0 ≡ z (2 * i))
-of-function xs t i h g =
+-- a list that holds entries up to i, with the next one stored at i
+pub one-entry-more : (xs : List ℕ) (i x : ℕ) → i < length xs → x ≡ z (i + 1) → ((k : ℕ) → k < i → getD xs k 0 ≡ z (k + 1)) → (k : ℕ) → k < i + 1 → getD (set xs i x) k 0 ≡ z (k + 1)
+one-entry-more xs i x inside e entries k h = go (eqb k i) refl
+  where
+    go : (b : Bool) → eqb k i ≡ b → getD (set xs i x) k 0 ≡ z (k + 1)
+    go true same =
+        let at = eqb-true k i same in
+        ap (λ (n : ℕ). getD (set xs i x) n 0) at ∙ getD-set-same xs i x 0 inside ∙ e ∙ ap (λ (n : ℕ). z (n + 1)) (sym at)
+    go false other = getD-set-other xs i k x 0 (eqb-false k i other) ∙ entries k (omega (arith, h, eqb-false k i other))
+
+-- the two entries of function i are z(2i - 1) and z(2i), in the table and in what begins it
+pub of-function : (xs : List ℕ) (n : ℕ) → ((k : ℕ) → k < n → getD xs k 0 ≡ z (k + 1)) → (i : ℕ) → 1 ≤ i → 2 * i ≤ n → (getD xs (2 * i - 2) 0 ≡ z (2 * i - 1)) × (getD xs (2 * i - 2 + 1) 0 ≡ z (2 * i))
+of-function xs n entries i h g =
     let e : 2 * i - 2 + 1 ≡ 2 * i - 1 = omega arith in
     let f : 2 * i - 2 + 1 + 1 ≡ 2 * i = omega arith in
-    (entry xs t (2 * i - 2) (omega arith) ∙ ap z e, entry xs t (2 * i - 2 + 1) (omega arith) ∙ ap z f)
+    (entries (2 * i - 2) (omega arith) ∙ ap z e, entries (2 * i - 2 + 1) (omega arith) ∙ ap z f)

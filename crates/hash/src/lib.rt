@@ -3,7 +3,7 @@ ghost use mathlib.Core.Path.{_≡_};
 ghost use Prim.Native.Nat.{_<_};
 ghost use mathlib.Core.Bool.{true};
 ghost use Rattle.hash.specs.Position.{nextOf, z, carterWegman, positionOf};
-ghost use Rattle.hash.specs.Table.{isTable, coefficientOf};
+ghost use Rattle.hash.specs.Table.{isTable, Begins, coefficientOf};
 
 // z(1) to z(128), two for each hash function.
 const COEFFICIENTS: [u32; 128] = [
@@ -162,6 +162,19 @@ fn coefficients() -> [u32; 128]
     COEFFICIENTS
 }
 
+// z(1) to z(16), for the first eight functions. A constant table is copied to the stack where it is read;
+// few positions need more of it than these 64 bytes.
+fn first_coefficients() -> [u32; 16]
+    ensures { λ r. ⌜ Begins r ⌝ }
+{
+    let table = coefficients();
+    let mut first = [0u32; 16];
+    for i in 0..16 {
+        first[i] = table[i];
+    }
+    first
+}
+
 // z(j) from the table, 0 outside 1 to 128.
 pub fn coefficient(j: u32) -> u32
     ensures { λ r. ⌜ r ≡ coefficientOf j ⌝ }
@@ -189,8 +202,12 @@ pub fn position(slots: u32, point: u32, index: u32) -> u32
     if 64 < index {
         return 0;
     }
-    let table = coefficients();
     let at = (2 * index - 2) as usize;
+    if index <= 8 {
+        let first = first_coefficients();
+        return mixed(first[at], first[at + 1], point, slots);
+    }
+    let table = coefficients();
     mixed(table[at], table[at + 1], point, slots)
 }
 

@@ -1,12 +1,12 @@
 -- Laws of a field: what the code keeps of its bytes is read as the bytes are, as a number and as a letter.
 -- Digits are followed from any count and value on; they stop being a number where the whole of them is none. Assumes nothing.
-use Prim.Native.Nat.{ℕ, suc, _+_, _*_, _-_, _≤_}
+use Prim.Native.Nat.{ℕ, suc, _+_, _*_, _-_, _≤_, _<_}
 use mathlib.Core.Path.{_≡_, refl, sym, _∙_, ap}
-use mathlib.Core.Bool.{Bool, true, false, cond, _&&_, true≢false}
+use mathlib.Core.Bool.{Bool, true, false, cond, _&&_, true≢false, false≢true}
 use mathlib.Core.List.{List, [], _∷_}
-use native.Mathlib.Nat.{zero-add}
+use native.Mathlib.Nat.{add-zero, zero-add}
 use native.Mathlib.Omega.{arith}
-use borrow.Author.Tests.{ltb-true, ltb-false, leb-true, leb-false, le-leb, lt-leb, ne-eqb}
+use borrow.Author.Tests.{ltb-true, ltb-false, lt-ltb, leb-true, leb-false, le-leb, lt-leb, ne-eqb}
 use lib.Dec.{ltb, leb, eqb}
 use lib.ListN.{length}
 use Rattle.refusal.specs.Judging.{both, within}
@@ -15,12 +15,7 @@ use Rattle.line.specs.declared.field.Field.the-variants.{Empty, Letter, 
 use Rattle.line.specs.declared.field.Reading.{Reading}
 use Rattle.line.specs.declared.field.Reading.the-variants.{Number, NoNumber}
 use Rattle.line.specs.Grammar.{digit, allDigits, decimal, isNumber, readNumber, isLetter}
-use Rattle.line.specs.LineState.{kept, digitsMore, firstByte, fieldMore, numberOf, isLetterField}
-
--- a field with all these bytes more
-unfoldable pub fieldFrom : Field → List ℕ → Field
-fieldFrom field [] = field
-fieldFrom field (byte ∷ bytes) = fieldFrom (fieldMore field byte) bytes
+use Rattle.line.specs.LineState.{kept, digitsField, digitsMore, firstByte, fieldMore, fieldFrom, numberOf, isLetterField}
 
 other-stays : (bytes : List ℕ) → fieldFrom Other bytes ≡ Other
 unfolding fieldFrom fieldMore
@@ -28,7 +23,7 @@ other-stays [] = refl
 other-stays (byte ∷ bytes) = other-stays bytes
 
 -- digits after more digits never say less
-grows : (value : ℕ) (bytes : List ℕ) → value ≤ decimal value bytes
+pub grows : (value : ℕ) (bytes : List ℕ) → value ≤ decimal value bytes
 unfolding decimal
 grows value [] = omega arith
 grows value (byte ∷ bytes) = omega (arith, grows (value * 10 + (byte - 48)) bytes)
@@ -92,6 +87,50 @@ unfolding fieldFrom allDigits decimal numberOf
 digits-read [] count value hc hv = rw (le-leb (count + 0) 10 (omega arith), le-leb value 4294967295 hv)
 digits-read (byte ∷ bytes) count value hc hv = digits-step byte bytes (digits-read bytes) count value hc hv
 
+-- digits with one digit more, as long as there are not ten
+kept-more : (count value byte : ℕ) → digit byte ≡ true → count < 10 → fieldMore (kept count value) byte ≡ kept (count + 1) (value * 10 + (byte - 48))
+unfolding kept fieldMore digitsMore
+kept-more count value byte d few = go (leb value 4294967295) refl
+  where
+    next : ℕ
+    next = value * 10 + (byte - 48)
+
+    go : (f : Bool) → leb value 4294967295 ≡ f → fieldMore (cond f (Digits (record { count = count; value = value })) Other) byte ≡ kept (count + 1) next
+    go true e = rw (d, lt-ltb count 10 few)
+    go false e =
+        let above = leb-false value 4294967295 e in
+        rw (lt-leb next 4294967295 (omega arith))
+
+kept-from : (bytes : List ℕ) (count value : ℕ) → allDigits bytes ≡ true → count + length bytes ≤ 10 → fieldFrom (kept count value) bytes ≡ kept (count + length bytes) (decimal value bytes)
+unfolding fieldFrom allDigits decimal
+kept-from [] count value digits few = rw (add-zero count)
+kept-from (byte ∷ bytes) count value digits few = go (digit byte) refl digits λ h. kept-from bytes (count + 1) next h (omega arith)
+  where
+    next : ℕ
+    next = value * 10 + (byte - 48)
+
+    Later : Type 0
+    Later = fieldFrom (kept (count + 1) next) bytes ≡ kept (count + 1 + length bytes) (decimal next bytes)
+
+    go : (d : Bool) → digit byte ≡ d → d && allDigits bytes ≡ true → (allDigits bytes ≡ true → Later) → fieldFrom (fieldMore (kept count value) byte) bytes ≡ kept (count + suc (length bytes)) (decimal next bytes)
+    go true e rest later =
+        let moved : count + suc (length bytes) ≡ count + 1 + length bytes = omega arith in
+        rw (kept-more count value byte e (omega arith), moved) (later rest)
+    go false e rest later = absurd (false≢true rest)
+
+-- an empty field with up to ten digits more
+pub digits-kept : (bytes : List ℕ) → allDigits bytes ≡ true → length bytes ≤ 10 → fieldFrom Empty bytes ≡ digitsField (length bytes) (decimal 0 bytes)
+unfolding fieldFrom fieldMore firstByte allDigits decimal kept digitsField
+digits-kept [] digits few = refl
+digits-kept (byte ∷ bytes) digits few = go (digit byte) refl digits
+  where
+    n : ℕ
+    n = suc (length bytes)
+
+    go : (d : Bool) → digit byte ≡ d → d && allDigits bytes ≡ true → fieldFrom (cond d (digitsMore 0 0 byte) (Letter byte)) bytes ≡ digitsField n (decimal 0 (byte ∷ bytes))
+    go true e later = kept-from (byte ∷ bytes) 0 0 digits (omega arith) ∙ rw (zero-add n, ne-eqb n 0 λ same. omega arith)
+    go false e later = absurd (false≢true later)
+
 letter-no-number : (letter : ℕ) (bytes : List ℕ) → numberOf (fieldFrom (Letter letter) bytes) ≡ NoNumber
 unfolding fieldFrom fieldMore numberOf
 letter-no-number letter [] = refl
@@ -129,7 +168,7 @@ digits-no-letter letter (byte ∷ bytes) count value = go (digit byte) (ltb coun
 
 -- a field is a letter, no digit, where its bytes are that one
 module _ (letter : ℕ) (no-digit : digit letter ≡ false) where
-  other-digit : (byte : ℕ) → digit byte ≡ true → eqb byte letter ≡ false
+  pub other-digit : (byte : ℕ) → digit byte ≡ true → eqb byte letter ≡ false
   other-digit byte e = ne-eqb byte letter λ same. true≢false (sym e ∙ ap digit same ∙ no-digit)
 
   pub reads-letter : (bytes : List ℕ) → isLetterField letter (fieldFrom Empty bytes) ≡ isLetter letter bytes

@@ -8,18 +8,17 @@ use native.Mathlib.Omega.{arith}
 use lib.Dec.{eqb}
 use lib.ListN.{length}
 use Rattle.refusal.specs.Judging.{both, within}
+use Rattle.line.specs.declared.field.Field.{Field}
+use Rattle.line.specs.declared.field.Field.the-variants.{Empty}
+use Rattle.line.specs.declared.state.Fields.the-variants.{TooMany}
 use Rattle.line.specs.declared.state.Line.{Line}
-use Rattle.line.specs.declared.state.Line.the-variants.{One, Two, Three, TooMany}
 use Rattle.line.specs.Grammar.{before, fields, digit, sizesOfFields, commandOfFields, readSizes, readCommand}
-use Rattle.line.specs.LineState.{lineBegin, nextField, sameField, lineMore, lineFrom, lineAfter, pointCommand, putCommand, commandOf, sizesOf}
-use Rattle.line.proofs.FieldLaws.{fieldFrom, reads-number, reads-letter}
+use Rattle.line.specs.LineState.{fieldFrom, lineBegin, withEnded, nextField, sameField, lineMore, lineFrom, lineAfter, pointCommand, putCommand, commandWith, commandOf, sizesWith, sizesOf}
+use Rattle.line.proofs.FieldLaws.{reads-number, reads-letter}
 
 -- the line whose last field has all these bytes more
 lastFrom : Line → List ℕ → Line
-lastFrom (One first) bytes = One (fieldFrom first bytes)
-lastFrom (Two first second) bytes = Two first (fieldFrom second bytes)
-lastFrom (Three first second third) bytes = Three first second (fieldFrom third bytes)
-lastFrom TooMany bytes = TooMany
+lastFrom line bytes = record { ended = line .ended; last = fieldFrom (line .last) bytes }
 
 -- the line behind which these fields follow, each after a space
 behind : Line → List (List ℕ) → Line
@@ -33,17 +32,11 @@ joined line (field ∷ later) = behind (lastFrom line field) later
 
 last-none : (line : Line) → lastFrom line [] ≡ line
 unfolding lastFrom fieldFrom
-last-none (One first) = refl
-last-none (Two first second) = refl
-last-none (Three first second third) = refl
-last-none TooMany = refl
+last-none line = refl
 
 last-more : (line : Line) (byte : ℕ) (bytes : List ℕ) → lastFrom (sameField line byte) bytes ≡ lastFrom line (byte ∷ bytes)
 unfolding lastFrom fieldFrom sameField
-last-more (One first) byte bytes = refl
-last-more (Two first second) byte bytes = refl
-last-more (Three first second third) byte bytes = refl
-last-more TooMany byte bytes = refl
+last-more line byte bytes = refl
 
 -- one byte in front of fields, of which there is at least one
 joined-before : (line : Line) (byte : ℕ) (rest : List (List ℕ)) → 1 ≤ length rest → joined (lineMore line byte) rest ≡ joined line (before byte rest)
@@ -74,26 +67,26 @@ unfolding lineFrom fields joined behind
 line-joined line [] = sym (last-none line)
 line-joined line (byte ∷ bytes) = line-joined (lineMore line byte) bytes ∙ joined-before line byte (fields bytes) (some-field bytes)
 
-too-many : (later : List (List ℕ)) → behind TooMany later ≡ TooMany
-unfolding behind lastFrom nextField
-too-many [] = refl
-too-many (field ∷ later) = too-many later
+too-many : (last : Field) (later : List (List ℕ)) → behind (record { ended = TooMany; last = last }) later .ended ≡ TooMany
+unfolding behind lastFrom nextField withEnded
+too-many last [] = refl
+too-many last (field ∷ later) = too-many (fieldFrom Empty field) later
 
 command-joined : (l : List (List ℕ)) → commandOf (joined lineBegin l) ≡ commandOfFields l
-unfolding joined behind lastFrom nextField lineBegin commandOf pointCommand putCommand commandOfFields digit within both
+unfolding joined behind lastFrom nextField withEnded lineBegin commandOf commandWith pointCommand putCommand commandOfFields digit within both
 command-joined [] = refl
 command-joined (letter ∷ []) = refl
 command-joined (letter ∷ point ∷ []) = rw (reads-letter 76 refl letter, reads-letter 82 refl letter, reads-number point)
 command-joined (letter ∷ point ∷ value ∷ []) = rw (reads-letter 80 refl letter, reads-number point, reads-number value)
-command-joined (letter ∷ point ∷ value ∷ next ∷ later) = rw (too-many later)
+command-joined (letter ∷ point ∷ value ∷ next ∷ later) = rw (too-many _ later)
 
 sizes-joined : (l : List (List ℕ)) → sizesOf (joined lineBegin l) ≡ sizesOfFields l
-unfolding joined behind lastFrom nextField lineBegin sizesOf sizesOfFields
+unfolding joined behind lastFrom nextField withEnded lineBegin sizesOf sizesWith sizesOfFields
 sizes-joined [] = refl
 sizes-joined (m ∷ []) = refl
 sizes-joined (m ∷ k ∷ []) = rw (reads-number m, reads-number k)
 sizes-joined (m ∷ k ∷ next ∷ []) = refl
-sizes-joined (m ∷ k ∷ next ∷ last ∷ later) = rw (too-many later)
+sizes-joined (m ∷ k ∷ next ∷ last ∷ later) = rw (too-many _ later)
 
 -- the code's answer for a line that was given byte by byte is what the line says
 pub reads-command : (bytes : List ℕ) → commandOf (lineAfter bytes) ≡ readCommand bytes

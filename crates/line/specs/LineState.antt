@@ -7,8 +7,9 @@ use Rattle.line.specs.declared.field.Field.{Field}
 use Rattle.line.specs.declared.field.Field.the-variants.{Empty, Letter, Digits, Other}
 use Rattle.line.specs.declared.field.Reading.{Reading}
 use Rattle.line.specs.declared.field.Reading.the-variants.{Number, NoNumber}
+use Rattle.line.specs.declared.state.Fields.{Fields}
+use Rattle.line.specs.declared.state.Fields.the-variants.{Nothing, One, Two, TooMany}
 use Rattle.line.specs.declared.state.Line.{Line}
-use Rattle.line.specs.declared.state.Line.the-variants.{One, Two, Three, TooMany}
 use Rattle.line.specs.declared.commands.CommandLine.{CommandLine}
 use Rattle.line.specs.declared.sizes.SizesLine.{SizesLine}
 use Rattle.line.specs.Grammar.{digit, sizesLine, putLine, lookupLine, removalLine}
@@ -16,6 +17,10 @@ use Rattle.line.specs.Grammar.{digit, sizesLine, putLine, lookupLine, re
 -- digits, as long as what they say fits 32 bits
 unfoldable pub kept : ℕ → ℕ → Field
 kept count value = cond (leb value 4294967295) (Digits (record { count = count; value = value })) Other
+
+-- an empty field with so many digits more, which say this
+unfoldable pub digitsField : ℕ → ℕ → Field
+digitsField count value = cond (eqb count 0) Empty (kept count value)
 
 -- digits with one byte more: an eleventh, or what is no digit, makes them no number
 unfoldable pub digitsMore : ℕ → ℕ → ℕ → Field
@@ -33,6 +38,11 @@ fieldMore (Letter letter) byte = Other
 fieldMore (Digits digits) byte = digitsMore (digits .count) (digits .value) byte
 fieldMore Other byte = Other
 
+-- a field with all these bytes more
+unfoldable pub fieldFrom : Field → List ℕ → Field
+fieldFrom field [] = field
+fieldFrom field (byte ∷ bytes) = fieldFrom (fieldMore field byte) bytes
+
 -- the number that the field is
 unfoldable pub numberOf : Field → Reading
 numberOf Empty = NoNumber
@@ -49,21 +59,22 @@ isLetterField letter Other = false
 
 -- a line of which no byte has been given
 unfoldable pub lineBegin : Line
-lineBegin = One Empty
+lineBegin = record { ended = Nothing; last = Empty }
 
--- a space ends a field and begins one
+-- the ended fields with one more
+unfoldable pub withEnded : Fields → Field → Fields
+withEnded Nothing last = One last
+withEnded (One first) last = Two first last
+withEnded (Two first second) last = TooMany
+withEnded TooMany last = TooMany
+
+-- a space ends the last field and begins the next
 unfoldable pub nextField : Line → Line
-nextField (One first) = Two first Empty
-nextField (Two first second) = Three first second Empty
-nextField (Three first second third) = TooMany
-nextField TooMany = TooMany
+nextField line = record { ended = withEnded (line .ended) (line .last); last = Empty }
 
 -- any other byte goes on with the last field
 unfoldable pub sameField : Line → ℕ → Line
-sameField (One first) byte = One (fieldMore first byte)
-sameField (Two first second) byte = Two first (fieldMore second byte)
-sameField (Three first second third) byte = Three first second (fieldMore third byte)
-sameField TooMany byte = TooMany
+sameField line byte = record { ended = line .ended; last = fieldMore (line .last) byte }
 
 -- a line with one byte more
 unfoldable pub lineMore : Line → ℕ → Line
@@ -89,16 +100,24 @@ unfoldable pub putCommand : Field → Field → Field → CommandLine
 putCommand letter point value =
     cond (isLetterField 80 letter) (putLine (numberOf point) (numberOf value)) CommandLine.Unreadable
 
+-- what a whole line asks for, by its ended fields and its last one
+unfoldable pub commandWith : Fields → Field → CommandLine
+commandWith Nothing last = CommandLine.Unreadable
+commandWith (One letter) last = pointCommand letter last
+commandWith (Two letter point) last = putCommand letter point last
+commandWith TooMany last = CommandLine.Unreadable
+
 -- what a whole line behind the first asks for
 unfoldable pub commandOf : Line → CommandLine
-commandOf (One first) = CommandLine.Unreadable
-commandOf (Two letter point) = pointCommand letter point
-commandOf (Three letter point value) = putCommand letter point value
-commandOf TooMany = CommandLine.Unreadable
+commandOf line = commandWith (line .ended) (line .last)
+
+-- what a whole line says of the sizes, by its ended fields and its last one
+unfoldable pub sizesWith : Fields → Field → SizesLine
+sizesWith Nothing last = SizesLine.Unreadable
+sizesWith (One m) last = sizesLine (numberOf m) (numberOf last)
+sizesWith (Two first second) last = SizesLine.Unreadable
+sizesWith TooMany last = SizesLine.Unreadable
 
 -- what the whole first line says
 unfoldable pub sizesOf : Line → SizesLine
-sizesOf (One first) = SizesLine.Unreadable
-sizesOf (Two m k) = sizesLine (numberOf m) (numberOf k)
-sizesOf (Three first second third) = SizesLine.Unreadable
-sizesOf TooMany = SizesLine.Unreadable
+sizesOf line = sizesWith (line .ended) (line .last)

@@ -6,6 +6,7 @@ use crate::field::Field;
 use crate::field::Reading;
 use crate::field::is_letter;
 use crate::field::number_of;
+use crate::state::Fields;
 use crate::state::Line;
 
 pub enum CommandLine {
@@ -23,11 +24,13 @@ pub struct PutLine {
 pub fn command_of(line: Line) -> CommandLine
     ensures { λ r. ⌜ r ≡ commandOf line ⌝ }
 {
-    match line {
-        Line::One(_) => CommandLine::Unreadable,
-        Line::Two(letter, point) => point_command(letter, point),
-        Line::Three(letter, point, value) => put_command(letter, point, value),
-        Line::TooMany => CommandLine::Unreadable,
+    let ended = line.ended;
+    let last = line.last;
+    match ended {
+        Fields::Nothing => CommandLine::Unreadable,
+        Fields::One(letter) => point_command(letter, last),
+        Fields::Two(letter, point) => put_command(letter, point, last),
+        Fields::TooMany => CommandLine::Unreadable,
     }
 }
 

@@ -1,7 +1,7 @@
 // One field of a line, byte by byte: the letter or the number that it can still be.
 ghost use mathlib.Core.Path.{_≡_};
 ghost use Rattle.line.specs.Grammar.{digit};
-ghost use Rattle.line.specs.LineState.{fieldMore, firstByte, digitsMore, kept, numberOf, isLetterField};
+ghost use Rattle.line.specs.LineState.{fieldMore, firstByte, digitsMore, digitsField, kept, numberOf, isLetterField};
 use refusal::tests::is_within;
 
 pub enum Field {
@@ -58,6 +58,16 @@ fn digits_more(digits: Digits, byte: u8) -> Field
     Field::Other
 }
 
+// An empty field with so many digits more, which say this.
+pub(crate) fn digits_field(count: u32, value: u64) -> Field
+    ensures { λ r. ⌜ r ≡ digitsField count value ⌝ }
+{
+    if count == 0 {
+        return Field::Empty;
+    }
+    kept(count, value)
+}
+
 // Digits stay a number as long as they fit 32 bits: more of them never say less.
 fn kept(count: u32, value: u64) -> Field
     ensures { λ r. ⌜ r ≡ kept count value ⌝ }
@@ -71,7 +81,7 @@ fn kept(count: u32, value: u64) -> Field
     Field::Other
 }
 
-fn is_digit(byte: u8) -> bool
+pub(crate) fn is_digit(byte: u8) -> bool
     ensures { λ r. ⌜ r ≡ digit byte ⌝ }
 {
     is_within(48, byte as u32, 57)

@@ -4,6 +4,7 @@ ghost use Rattle.line.specs.Grammar.{sizesLine};
 ghost use Rattle.line.specs.LineState.{sizesOf};
 use crate::field::Reading;
 use crate::field::number_of;
+use crate::state::Fields;
 use crate::state::Line;
 
 pub enum SizesLine {
@@ -19,11 +20,13 @@ pub struct Sizes {
 pub fn sizes_of(line: Line) -> SizesLine
     ensures { λ r. ⌜ r ≡ sizesOf line ⌝ }
 {
-    match line {
-        Line::One(_) => SizesLine::Unreadable,
-        Line::Two(m, k) => sizes_line(number_of(m), number_of(k)),
-        Line::Three(_, _, _) => SizesLine::Unreadable,
-        Line::TooMany => SizesLine::Unreadable,
+    let ended = line.ended;
+    let last = line.last;
+    match ended {
+        Fields::Nothing => SizesLine::Unreadable,
+        Fields::One(m) => sizes_line(number_of(m), number_of(last)),
+        Fields::Two(_, _) => SizesLine::Unreadable,
+        Fields::TooMany => SizesLine::Unreadable,
     }
 }
 

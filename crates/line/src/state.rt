@@ -1,13 +1,19 @@
-// The fields of a line so far. The last one is still open; a fourth makes every line unreadable.
+// The fields of a line so far: those that a space has ended, and the last one, which goes on.
 ghost use mathlib.Core.Path.{_≡_};
-ghost use Rattle.line.specs.LineState.{lineBegin, lineMore, nextField, sameField};
+ghost use Rattle.line.specs.LineState.{lineBegin, lineMore, withEnded};
 use crate::field::Field;
 use crate::field::field_more;
 
-pub enum Line {
+pub struct Line {
+    pub ended: Fields,
+    pub last: Field,
+}
+
+// No readable line has more than three fields, the last one included.
+pub enum Fields {
+    Nothing,
     One(Field),
     Two(Field, Field),
-    Three(Field, Field, Field),
     TooMany,
 }
 
@@ -15,38 +21,38 @@ pub enum Line {
 pub fn begin() -> Line
     ensures { λ r. ⌜ r ≡ lineBegin ⌝ }
 {
-    Line::One(Field::Empty)
+    Line {
+        ended: Fields::Nothing,
+        last: Field::Empty,
+    }
 }
 
-// The line with one byte more.
+// The line with one byte more. Each space ends a field, so that two in a row leave an empty one.
 pub fn more(line: Line, byte: u8) -> Line
     ensures { λ r. ⌜ r ≡ lineMore line byte ⌝ }
 {
+    let ended = line.ended;
+    let last = line.last;
     if byte == 32 {
-        return next_field(line);
+        return Line {
+            ended: with_ended(ended, last),
+            last: Field::Empty,
+        };
     }
-    same_field(line, byte)
-}
-
-// A space: each ends a field and begins one, so that two in a row leave an empty field.
-fn next_field(line: Line) -> Line
-    ensures { λ r. ⌜ r ≡ nextField line ⌝ }
-{
-    match line {
-        Line::One(first) => Line::Two(first, Field::Empty),
-        Line::Two(first, second) => Line::Three(first, second, Field::Empty),
-        Line::Three(_, _, _) => Line::TooMany,
-        Line::TooMany => Line::TooMany,
+    Line {
+        ended: ended,
+        last: field_more(last, byte),
     }
 }
 
-fn same_field(line: Line, byte: u8) -> Line
-    ensures { λ r. ⌜ r ≡ sameField line byte ⌝ }
+// The ended fields with one more.
+fn with_ended(ended: Fields, last: Field) -> Fields
+    ensures { λ r. ⌜ r ≡ withEnded ended last ⌝ }
 {
-    match line {
-        Line::One(first) => Line::One(field_more(first, byte)),
-        Line::Two(first, second) => Line::Two(first, field_more(second, byte)),
-        Line::Three(first, second, third) => Line::Three(first, second, field_more(third, byte)),
-        Line::TooMany => Line::TooMany,
+    match ended {
+        Fields::Nothing => Fields::One(last),
+        Fields::One(first) => Fields::Two(first, last),
+        Fields::Two(_, _) => Fields::TooMany,
+        Fields::TooMany => Fields::TooMany,
     }
 }

@@ -37,13 +37,7 @@ fn goes_on(answer: ReaderAnswer) -> bool
 // Steps of a reader with this work, to the end or as many as the budget allows. The record was judged
 // when the operation was started, and a step changes nothing in it but this work, so that no step needs
 // to judge the record or to make a new one.
-fn reader_steps(
-    panel: Record,
-    slots: &[u64],
-    reader: u32,
-    begun: ReaderWork,
-    budget: u64,
-) -> Moved
+fn reader_steps(panel: Record, slots: &[u64], reader: u32, begun: ReaderWork, budget: u64) -> Moved
     requires { ⌜ (inRange (length (now slots)) (withWork panel reader begun) ≡ true) × (reader ≤ 15) × (isIdle begun ≡ false) ⌝ }
     ensures { λ r. ⌜ (outcome (withWork panel reader (r .work)) (now (slots .entry)) (paperReader (r .answer)) ≡ untilEnded (readerStep reader) budget (outcome (withWork panel reader begun) (now (slots .entry)) underway)) × (isUnderway (paperReader (r .answer)) ≡ not (isIdle (r .work))) ⌝ }
 {

@@ -128,13 +128,7 @@ fn steps(panel: Record, slots: &mut [u64], begun: WriterWork, budget: u64) -> Ra
 }
 
 // The operation started, unless it is refused, and run to its end.
-fn whole(
-    panel: Record,
-    slots: &mut [u64],
-    point: u32,
-    work: WriterWork,
-    budget: u64,
-) -> Written
+fn whole(panel: Record, slots: &mut [u64], point: u32, work: WriterWork, budget: u64) -> Written
     requires { ⌜ (1 ≤ budget) × (isIdle work ≡ false) × (putsOrChanges work ≡ true) × Begun (startWriter panel (now slots) point work) × (isUnderway (untilEnded writerStep budget (startWriter panel (now slots) point work) .answer) ≡ false) ⌝ }
     ensures { λ r. ⌜ outcome (leaves panel r) (now (slots .exit)) (paperWriter (r .answer)) ≡ untilEnded writerStep budget (startWriter panel (now (slots .entry)) point work) ⌝ }
 {
@@ -161,13 +155,7 @@ pub fn whole_put(panel: Record, slots: &mut [u64], point: u32, value: u32) -> Wr
 }
 
 // Changes a point's value to (value AND keep) XOR flip, from the start to the end.
-pub fn whole_change(
-    panel: Record,
-    slots: &mut [u64],
-    point: u32,
-    keep: u32,
-    flip: u32,
-) -> Written
+pub fn whole_change(panel: Record, slots: &mut [u64], point: u32, keep: u32, flip: u32) -> Written
     ensures { λ r. ⌜ outcome (leaves panel r) (now (slots .exit)) (paperWriter (r .answer)) ≡ wholeChange panel (now (slots .entry)) point keep flip ⌝ }
 {
     let budget = panel.k as u64 + 2;

@@ -35,13 +35,12 @@ abbrev μ-loop : tie.MeasureT-loop
 
 loop-holds : tie.Need-loop-holds Inv-loop μ-loop
 unfolding isUnderway withWriter withReach counted withCount withNumbered
-loop-holds c = 
-    (
-      refl,
-      record { holds = record { fits = c .before .pre .0; busy = ap not (sym (c .before .pre .1)) }; goes = λ h. refl; same = refl },
-      λ h. refl,
-      c .before .pre .2,
-    )
+loop-holds c = (
+  refl,
+  record { holds = record { fits = c .before .pre .0; busy = ap not (sym (c .before .pre .1)) }; goes = λ h. refl; same = refl },
+  λ h. refl,
+  c .before .pre .2,
+)
 
 access-requires : tie.Need-access-requires Inv-loop μ-loop
 access-requires c κs = c .before .before .loop .inv .3
@@ -68,7 +67,7 @@ loop-less : tie.Need-loop-less Inv-loop μ-loop
 loop-less c = fewer (c .before .before .before .before .before .before .before .before .before .before .before .loop .left) _ (c .before .goes-on .result) (omega (arith, c .before .before .before .before .before .before .before .before .before .before .loop-test)) (c .left-after .ensures)
 
 loop-again : tie.Need-loop-again Inv-loop μ-loop
-loop-again c = 
+loop-again c =
     let a = c .before .before .before .before .before .before .before .before .before .before .before .before .before .args in
     let l = c .before .before .before .before .before .before .before .before .before .before .before .loop in
     let more = c .before .before .before .before .before .before .before .before .before .before .loop-test in
@@ -94,11 +93,11 @@ same-length c = c .before .before .loop .inv .0
 
 returns : tie.Need-returns Inv-loop μ-loop
 unfolding leaves counted withReach withWriter withCount countOf
-returns c = 
+returns c =
     let a = c .before .before .before .before .args in
     let l = c .before .before .loop in (
       ap (λ (count : ℕ). outcome (withWriter (withCount (withReach (a .panel) (l .reach)) (l .index) count) (l .work)) (l .slots) (paperWriter (l .answer))) (c .one-more .ensures)
-      ∙ arrives writerStep AtWork stays-at-work _ _ (l .left) _ (l .inv .1) (omega (arith, c .before .loop-test)),
+          ∙ arrives writerStep AtWork stays-at-work _ _ (l .left) _ (l .inv .1) (omega (arith, c .before .loop-test)),
       l .inv .1 .holds .busy,
     )
 

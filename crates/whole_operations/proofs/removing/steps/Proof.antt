@@ -112,7 +112,7 @@ returns c =
     let l = c .before .before .loop in
     let held = l .inv .2 .same ∙ ap (λ (count : ℕ). withCount (withReach (a .panel) (l .held .reach)) (l .index) count) (sym (c .count-of .ensures)) in (
       ap (λ (r : Record). outcome (withWriter r (l .work)) (l .slots) (paperWriter (l .answer))) (sym held)
-      ∙ arrives writerStep AtWork stays-at-work _ _ (l .left) _ (l .inv .1) (omega (arith, c .before .loop-test)),
+          ∙ arrives writerStep AtWork stays-at-work _ _ (l .left) _ (l .inv .1) (omega (arith, c .before .loop-test)),
       l .inv .1 .holds .busy,
     )
 

@@ -80,15 +80,6 @@ pub(crate) fn line_after(bytes: &[u8], reading: Reading) -> Reading {
     )
 }
 
-// No line is left.
-pub(crate) fn is_over(reading: Reading) -> bool {
-    if reading.is_whole {
-        false
-    } else {
-        reading.is_last
-    }
-}
-
 // The line has a byte.
 fn is_begun(line: Line) -> bool {
     let ended = line.ended;

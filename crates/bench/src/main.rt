@@ -8,12 +8,10 @@ use answers::FreshAnswer;
 use commands::run_line;
 use input::Reading;
 use input::first_line;
-use input::is_over;
 use input::line_after;
 use input::read_on;
 use line::SizesLine;
 use record::Record;
-use refusal::tests::is_within;
 use table::fresh;
 
 fn main() {
@@ -71,11 +69,18 @@ fn with_panel(
     let panel = made.panel;
     match answer {
         FreshAnswer::Refused(_) => refuse(text),
-        FreshAnswer::Made => {
-            let filled = printing::panel(0, text, m, k);
-            run_lines(panel, slots, first, bytes, filled, text);
-        }
+        FreshAnswer::Made => run_panel(panel, slots, bytes, text, first),
     }
+}
+
+fn run_panel(panel: Record, slots: &mut [u64], bytes: &mut [u8], text: &mut [u8], first: Reading) {
+    let begun = Run {
+        panel: panel,
+        reading: line_after(bytes, first),
+        number: 1,
+        filled: printing::panel(0, text, panel.m, panel.k),
+    };
+    finish(run_lines(begun, slots, bytes, text), slots, text);
 }
 
 // "A first line that is missing, unreadable or refused prints "panel ! 1" and ends the run".
@@ -84,44 +89,70 @@ fn refuse(text: &mut [u8]) {
     output::flush(filled, text);
 }
 
-// Every line behind the first. The record stays in this function, and a line alters it in place: a
-// function that took and gave it would copy it. Such a loop has to end, and nothing says that the input
-// does: it counts its turns down, from a number that no run uses up.
-fn run_lines(
-    begun: Record,
-    slots: &mut [u64],
-    first: Reading,
-    bytes: &mut [u8],
-    printed: usize,
-    text: &mut [u8],
-) {
-    let mut panel = begun;
-    let mut reading = line_after(bytes, first);
-    let mut number = 1u64;
-    let mut filled = printed;
+// The record after the lines that have been run, the line behind them, how many there were, and how much
+// of the output's buffer is in use.
+struct Run {
+    panel: Record,
+    reading: Reading,
+    number: u64,
+    filled: usize,
+}
+
+// Every line behind the first. Such a loop has to end, and nothing says that the input does: it counts
+// its turns down, from a number that no run uses up.
+fn run_lines(begun: Run, slots: &mut [u64], bytes: &mut [u8], text: &mut [u8]) -> Run {
+    let mut run = begun;
     let mut turns = u64::MAX;
     while turns > 0 {
-        if reading.is_whole {
-            number = std::num::wrapping_add_u64(number, 1);
-            let line = reading.line;
-            let done = run_line(panel, slots, line, number, filled, text);
-            panel.reach = done.reach;
-            if is_within(1, done.index, 64) {
-                panel.counts[(done.index - 1) as usize] = done.count;
-            }
-            filled = done.filled;
-            reading = line_after(bytes, reading);
-        } else {
-            reading = read_on(bytes, reading);
+        run = run_whole_lines(run, slots, bytes, text);
+        let reading = run.reading;
+        if reading.is_last {
+            return run;
         }
-        turns = if is_over(reading) { 0 } else { turns - 1 };
+        run.reading = read_on(bytes, reading);
+        turns -= 1;
     }
-    finish(panel.reach, slots, filled, text);
+    run
+}
+
+// The lines that the buffer has whole. The record stays in this function, and a line alters it in place:
+// a function that took and gave it for each line would copy it.
+fn run_whole_lines(begun: Run, slots: &mut [u64], bytes: &[u8], text: &mut [u8]) -> Run {
+    let mut panel = begun.panel;
+    let mut reading = begun.reading;
+    let mut number = begun.number;
+    let mut filled = begun.filled;
+    let mut turns = u64::MAX;
+    while turns > 0 {
+        if !reading.is_whole {
+            break;
+        }
+        number = std::num::wrapping_add_u64(number, 1);
+        let line = reading.line;
+        let done = run_line(panel, slots, line, number, filled, text);
+        let index = done.index;
+        panel.reach = done.reach;
+        if 0 < index {
+            if index <= 64 {
+                panel.counts[(index - 1) as usize] = done.count;
+            }
+        }
+        filled = done.filled;
+        reading = line_after(bytes, reading);
+        turns -= 1;
+    }
+    Run {
+        panel: panel,
+        reading: reading,
+        number: number,
+        filled: filled,
+    }
 }
 
 // The last printed line: the reach and the number of stored points.
-fn finish(reach: u32, slots: &[u64], held: usize, text: &mut [u8]) {
+fn finish(ended: Run, slots: &[u64], text: &mut [u8]) {
+    let panel = ended.panel;
     let points = slot_words::taken::taken_slots(slots) as u64;
-    let filled = printing::finish(output::room(held, text), text, reach, points);
-    output::flush(filled, text);
+    let room = output::room(ended.filled, text);
+    output::flush(printing::finish(room, text, panel.reach, points), text);
 }

@@ -1,0 +1,88 @@
+-- `bench::run_whole_lines` ends: it counts its turns down.
+-- Assumes nothing.
+use mathlib.Core.Path.{_≡_}
+use borrow.Author.Needs.{needs}
+use lib.ListN.{length}
+use Rattle.bench.proofs.run_whole_lines.Statement.{statement}
+use Rattle.bench.proofs.run_whole_lines.Tie as tie
+
+abbrev Inv-loop : tie.InvT-loop
+Inv-loop slots₀ bytes text₀ panel₀ reading₀ number₀ filled₀ turns₀ slots text panel reading number filled turns = (length slots ≡ length slots₀) × (length text ≡ length text₀)
+
+abbrev μ-loop : tie.MeasureT-loop
+μ-loop slots₀ bytes text₀ panel₀ reading₀ number₀ filled₀ turns₀ slots text panel reading number filled turns = turns
+
+loop-holds : tie.Need-loop-holds Inv-loop μ-loop
+loop-holds c = search needs
+
+wrapping-add-u64-requires : tie.Need-wrapping-add-u64-requires Inv-loop μ-loop
+wrapping-add-u64-requires c κs = search needs
+
+run-line-requires : tie.Need-run-line-requires Inv-loop μ-loop
+run-line-requires c κs = search needs
+
+sub-panel : tie.Need-sub-panel Inv-loop μ-loop
+sub-panel c = search needs
+
+cast-panel : tie.Need-cast-panel Inv-loop μ-loop
+cast-panel c = search needs
+
+mul-panel : tie.Need-mul-panel Inv-loop μ-loop
+mul-panel c = search needs
+
+element-write-panel : tie.Need-element-write-panel Inv-loop μ-loop
+element-write-panel c = search needs
+
+line-after-requires : tie.Need-line-after-requires Inv-loop μ-loop
+line-after-requires c κs = search needs
+
+sub-turns : tie.Need-sub-turns Inv-loop μ-loop
+sub-turns c = search needs
+
+loop-less : tie.Need-loop-less Inv-loop μ-loop
+loop-less c = search needs
+
+loop-again : tie.Need-loop-again Inv-loop μ-loop
+loop-again c = search needs
+
+same-length : tie.Need-same-length Inv-loop μ-loop
+same-length c = search needs
+
+same-length-2 : tie.Need-same-length-2 Inv-loop μ-loop
+same-length-2 c = search needs
+
+returns : tie.Need-returns Inv-loop μ-loop
+returns c = search needs
+
+same-length-3 : tie.Need-same-length-3 Inv-loop μ-loop
+same-length-3 c = search needs
+
+same-length-4 : tie.Need-same-length-4 Inv-loop μ-loop
+same-length-4 c = search needs
+
+returns-2 : tie.Need-returns-2 Inv-loop μ-loop
+returns-2 c = search needs
+
+pub run-whole-lines-spec : {M : Type 1} → statement M
+run-whole-lines-spec =
+    tie.close
+    (tie.spec
+    Inv-loop
+    μ-loop
+    loop-holds
+    wrapping-add-u64-requires
+    run-line-requires
+    sub-panel
+    cast-panel
+    mul-panel
+    element-write-panel
+    line-after-requires
+    sub-turns
+    loop-less
+    loop-again
+    same-length
+    same-length-2
+    returns
+    same-length-3
+    same-length-4
+    returns-2)

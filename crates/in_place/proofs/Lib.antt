@@ -1,0 +1,5 @@
+pub mod InPlace
+pub mod Locals
+pub mod Outcome
+pub mod Panel
+pub mod Walk

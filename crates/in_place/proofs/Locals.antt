@@ -94,24 +94,23 @@ module _ {M : Type 1} {𝓤 : URA M} {H : Heap 𝓤} {A : Atoms 𝓤} {K : Type 
     pub found : {Γ : List (Item 𝓤)} → K → {i : ℕ} {e : Ty × ℕ} {st : List PlaceStep} {sp : Spot 𝓤 H} → getD E i (noLocal 𝓤 H) ≡ e → Walks K W Γ E (e .0, e .1, 0) st sp → Finds K W Γ E (place i st) sp
     found {Γ} t {i} {e} {st} is w = record { go = λ Kt h. subst (λ (l : Ty × ℕ). ent 𝓤 (⋆ 𝓤 H A Γ) (walk 𝓤 H E (l .0, l .1, 0) st Kt)) (sym is) (w .go Kt h) }
 
-    -- operands that are read in a context are read in another that says the same
+    -- operands that are read in a context are read in another that says the same: in one with entry n in front, and in one with the first local apart
     regrouped : (Γ Δ : List (Item 𝓤)) {xs : List Operand} {vs : List Val} → ent 𝓤 (⋆ 𝓤 H A Γ) (⋆ 𝓤 H A Δ) → ent 𝓤 (⋆ 𝓤 H A Δ) (⋆ 𝓤 H A Γ) → Opds K W Δ E xs vs → Opds K W Γ E xs vs
     regrouped Γ Δ to back os = record { go = λ Kt h. via 𝓤 (⋆ 𝓤 H A Δ) to (os .go Kt (via 𝓤 (⋆ 𝓤 H A Γ) back h)) }
 
-    read-first : {Γ : List (Item 𝓤)} → K → (i : ℕ) (τs : List Ty) (bs : Blocks τs) (vs : List Val) → Typed τs vs → From (noLocal 𝓤 H) E i τs bs → Opds K W (‵ (cells τs bs vs) ∷ Γ) E (copies i τs) vs
-    read-first t i [] bs [] ok f = no-more t
-    read-first t i [] bs (v ∷ vs) ok f = absurd ok
-    read-first t i (τ ∷ τs) bs [] ok f = absurd ok
-    read-first {Γ} t i (τ ∷ τs) bs (v ∷ vs) ok f =
+    pub at-entry : (Γ : List (Item 𝓤)) (n : ℕ) {xs : List Operand} {vs : List Val} → Opds K W (nth 𝓤 H A n Γ ∷ del 𝓤 H A n Γ) E xs vs → Opds K W Γ E xs vs
+    at-entry Γ n = regrouped Γ (nth 𝓤 H A n Γ ∷ del 𝓤 H A n Γ) (via 𝓤 _ (pull 𝓤 H A n Γ) (push 𝓤 H A (nth 𝓤 H A n Γ) (del 𝓤 H A n Γ))) (via 𝓤 _ (pop 𝓤 H A (nth 𝓤 H A n Γ) (del 𝓤 H A n Γ)) (unpull 𝓤 H A n Γ))
+
+    pub in-tail : (Γ : List (Item 𝓤)) (τ : Ty) (τs : List Ty) (bs : Blocks (τ ∷ τs)) (v : Val) (vs : List Val) {xs : List Operand} {us : List Val}
+        → Opds K W (‵ (cells τs (bs .1) vs) ∷ ‵ (fat fullShare τ (bs .0) 0 v) ∷ ‵ (fdies τ (bs .0)) ∷ Γ) E xs us → Opds K W (‵ (cells (τ ∷ τs) bs (v ∷ vs)) ∷ Γ) E xs us
+    in-tail Γ τ τs bs v vs =
         regrouped (‵ (cells (τ ∷ τs) bs (v ∷ vs)) ∷ Γ) (‵ (cells τs (bs .1) vs) ∷ ‵ (fat fullShare τ (bs .0) 0 v) ∷ ‵ (fdies τ (bs .0)) ∷ Γ)
         (qed W (‵ (cells (τ ∷ τs) bs (v ∷ vs)) ∷ Γ) ∵ fsplit3 ! $ move ! (2 ∷ 0 ∷ 1 ∷ []) $ done !)
         (qed W (‵ (cells τs (bs .1) vs) ∷ ‵ (fat fullShare τ (bs .0) 0 v) ∷ ‵ (fdies τ (bs .0)) ∷ Γ) ∵ move ! (1 ∷ 2 ∷ 0 ∷ []) $ fjoin3 ! $ done !)
-        (and-then t (load t (found t (f .0) (stop t)) (look t 1 refl)) (read-first t (suc i) τs (bs .1) vs (ok .1) (f .1)))
 
-    -- the locals of τs, entry n of the context, as operands
-    pub reads : (Γ : List (Item 𝓤)) → K → (n i : ℕ) (τs : List Ty) (bs : Blocks τs) (vs : List Val) → Typed τs vs → From (noLocal 𝓤 H) E i τs bs → nth 𝓤 H A n Γ ≡ ‵ (cells τs bs vs) → Opds K W Γ E (copies i τs) vs
-    reads Γ t n i τs bs vs ok f is =
-        regrouped Γ (‵ (cells τs bs vs) ∷ del 𝓤 H A n Γ)
-        (subst (λ (j : Item 𝓤). ent 𝓤 (⋆ 𝓤 H A Γ) (⋆ 𝓤 H A (j ∷ del 𝓤 H A n Γ))) is (via 𝓤 _ (pull 𝓤 H A n Γ) (push 𝓤 H A (nth 𝓤 H A n Γ) (del 𝓤 H A n Γ))))
-        (subst (λ (j : Item 𝓤). ent 𝓤 (⋆ 𝓤 H A (j ∷ del 𝓤 H A n Γ)) (⋆ 𝓤 H A Γ)) is (via 𝓤 _ (pop 𝓤 H A (nth 𝓤 H A n Γ) (del 𝓤 H A n Γ)) (unpull 𝓤 H A n Γ)))
-        (read-first t i τs bs vs ok f)
+    -- the locals of τs as operands
+    pub reads : (Γ : List (Item 𝓤)) → K → (i : ℕ) (τs : List Ty) (bs : Blocks τs) (vs : List Val) → Typed τs vs → From (noLocal 𝓤 H) E i τs bs → Opds K W (‵ (cells τs bs vs) ∷ Γ) E (copies i τs) vs
+    reads Γ t i [] bs [] ok f = no-more t
+    reads Γ t i [] bs (v ∷ vs) ok f = absurd ok
+    reads Γ t i (τ ∷ τs) bs [] ok f = absurd ok
+    reads Γ t i (τ ∷ τs) bs (v ∷ vs) ok f = in-tail Γ τ τs bs v vs (and-then t (load t (found t (f .0) (stop t)) (look t 1 refl)) (reads _ t (suc i) τs (bs .1) vs (ok .1) (f .1)))

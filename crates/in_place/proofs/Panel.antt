@@ -28,32 +28,32 @@ use Rattle.in_place.proofs.InPlace.{Param, Passing, tys, args, fit}
 use Rattle.in_place.proofs.Outcome.{State, Answer, Outcome}
 use Rattle.in_place.proofs.Passings.{copied, copied-hands, lent-again, lent-again-hands}
 
-abbrev pub panel : State
+abbrev panel : State
 panel = record { type = Record.the-type; laws = Record′.the-laws; lowers = Record′.lowers; plain = Record′.the-plain }
 
-abbrev pub start-answer : Answer
+abbrev start-answer : Answer
 start-answer = record { type = StartAnswer.the-type; laws = StartAnswer′.the-laws; few = tt; lowers = StartAnswer′.lowers; plain = StartAnswer′.the-plain }
 
-abbrev pub start-outcome : Outcome panel start-answer
-start-outcome = record { name = StartOutcome.the-type .name; D = StartOutcome.the-type .D; state = λ r. r .panel; answer = λ r. r .answer; one = StartOutcome.the-type .to-one }
+abbrev pub start-outcome : Outcome
+start-outcome = record { states = panel; answers = start-answer; name = StartOutcome.the-type .name; D = StartOutcome.the-type .D; state = λ r. r .panel; answer = λ r. r .answer; one = StartOutcome.the-type .to-one }
 
-abbrev pub reader-answer : Answer
+abbrev reader-answer : Answer
 reader-answer = record { type = ReaderAnswer.the-type; laws = ReaderAnswer′.the-laws; few = tt; lowers = ReaderAnswer′.lowers; plain = ReaderAnswer′.the-plain }
 
-abbrev pub reader-outcome : Outcome panel reader-answer
-reader-outcome = record { name = ReaderOutcome.the-type .name; D = ReaderOutcome.the-type .D; state = λ r. r .panel; answer = λ r. r .answer; one = ReaderOutcome.the-type .to-one }
+abbrev pub reader-outcome : Outcome
+reader-outcome = record { states = panel; answers = reader-answer; name = ReaderOutcome.the-type .name; D = ReaderOutcome.the-type .D; state = λ r. r .panel; answer = λ r. r .answer; one = ReaderOutcome.the-type .to-one }
 
-abbrev pub writer-answer : Answer
+abbrev writer-answer : Answer
 writer-answer = record { type = WriterAnswer.the-type; laws = WriterAnswer′.the-laws; few = tt; lowers = WriterAnswer′.lowers; plain = WriterAnswer′.the-plain }
 
-abbrev pub writer-outcome : Outcome panel writer-answer
-writer-outcome = record { name = WriterOutcome.the-type .name; D = WriterOutcome.the-type .D; state = λ r. r .panel; answer = λ r. r .answer; one = WriterOutcome.the-type .to-one }
+abbrev pub writer-outcome : Outcome
+writer-outcome = record { states = panel; answers = writer-answer; name = WriterOutcome.the-type .name; D = WriterOutcome.the-type .D; state = λ r. r .panel; answer = λ r. r .answer; one = WriterOutcome.the-type .to-one }
 
-abbrev pub entry-answer : Answer
+abbrev entry-answer : Answer
 entry-answer = record { type = EntryAnswer.the-type; laws = EntryAnswer′.the-laws; few = tt; lowers = EntryAnswer′.lowers; plain = EntryAnswer′.the-plain }
 
-abbrev pub entry-outcome : Outcome panel entry-answer
-entry-outcome = record { name = EntryOutcome.the-type .name; D = EntryOutcome.the-type .D; state = λ r. r .panel; answer = λ r. r .answer; one = EntryOutcome.the-type .to-one }
+abbrev pub entry-outcome : Outcome
+entry-outcome = record { states = panel; answers = entry-answer; name = EntryOutcome.the-type .name; D = EntryOutcome.the-type .D; state = λ r. r .panel; answer = λ r. r .answer; one = EntryOutcome.the-type .to-one }
 
 -- ---- parameters
 abbrev pub number : {n : ℕ} → Param n

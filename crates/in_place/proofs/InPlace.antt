@@ -28,7 +28,7 @@ use denote.Triple.End.{all, Fins, Outs, outs, lastsOf}
 use denote.Triple.Entry.{Vals}
 use denote.Triple.Spec.{Meets, tripleOf}
 use denote.Triple.Table.{entered}
-use Rattle.in_place.proofs.Outcome.{Outcome, StateT, AnswerT, state-row, answer-row, state-val}
+use Rattle.in_place.proofs.Outcome.{Outcome, StateT, state-row, answer-row, state-val}
 use Rattle.in_place.proofs.Walk.{Further, Handing, Hands, function, Asked, Gives, walk}
 
 -- a parameter of one machine value, in a signature of n lifetimes

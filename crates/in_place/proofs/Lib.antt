@@ -2,5 +2,5 @@ pub mod InPlace
 pub mod Locals
 pub mod Outcome
 pub mod Panel
-pub mod Passings
+pub mod Params
 pub mod Walk

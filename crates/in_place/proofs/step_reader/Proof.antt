@@ -12,7 +12,8 @@ use Rattle.reader_step.proofs.step_reader.Met as callee-thm
 use Rattle.reader_step.proofs.step_reader.Symbol as callee-def
 use Rattle.reader_step.proofs.step_reader.Symbol.{name as #callee}
 use Rattle.in_place.proofs.InPlace.{Param, by-value, at-end, in-place}
-use Rattle.in_place.proofs.Panel.{reader-outcome, number, slice, copies}
+use Rattle.in_place.proofs.Panel.{reader-outcome}
+use Rattle.in_place.proofs.Params.{number, slice, copied}
 use Rattle.in_place.proofs.step_reader as self
 use Rattle.in_place.proofs.step_reader.Code as code
 use Rattle.in_place.proofs.step_reader.Key.{name as #self}
@@ -24,7 +25,7 @@ ps = slice w64 1 tt ∷ number ∷ []
 pub step-reader-spec : {M : Type 1} → statement M
 unfolding code.routine
 step-reader-spec 𝓤 H 𝓜 𝓖 𝓡 =
-    in-place reader-outcome ps (copies ps) 𝓤 H 𝓜 𝓖 𝓡 (self.clauses 𝓤 H (𝓖 .A) (𝓜 .mem) (𝓡 .run))
+    in-place reader-outcome ps (copied ps) 𝓤 H 𝓜 𝓖 𝓡 (self.clauses 𝓤 H (𝓖 .A) (𝓜 .mem) (𝓡 .run))
     (record { gives = λ κs x a r l. callee.clauses 𝓤 H (𝓖 .A) (𝓜 .mem) (𝓡 .run) (κs .1) (now x, a) .ensures tt r (at-end reader-outcome ps κs x a l); so = λ κs x a γ r l. id⊢ 𝓤 _ })
     code.env #self #callee code.function (code.unfolded 𝓤 H 𝓜 𝓡) refl
     (λ κs qs x a γ. cited 𝓤 H (tripleOf 𝓤 H (𝓖 .A) callee.signature (callee.spec 𝓤 H (𝓖 .A) (𝓜 .mem) (𝓡 .run))) 𝓜 𝓡 code.env #callee callee-def.routine refl (callee-thm.met 𝓤 H 𝓜 𝓖 𝓡)

@@ -40,11 +40,12 @@ abbrev pub env : (τs : List Ty) → Blocks τs → List (Ty × ℕ)
 env [] bs = []
 env (τ ∷ τs) bs = (τ, bs .0) ∷ env τs (bs .1)
 
+-- room for each local, and the right to free it
 abbrev pub rooms : (τs : List Ty) → Blocks τs → Fml
 rooms [] bs = ftrue
 rooms (τ ∷ τs) bs = fsep (froom τ (bs .0) 0) (fsep (fdies τ (bs .0)) (rooms τs (bs .1)))
 
--- the locals hold vs
+-- the same where the locals hold vs
 abbrev pub cells : (τs : List Ty) → Blocks τs → List Val → Fml
 cells [] bs vs = ftrue
 cells (τ ∷ τs) bs [] = ftrue
@@ -94,7 +95,7 @@ module _ {M : Type 1} {𝓤 : URA M} {H : Heap 𝓤} {A : Atoms 𝓤} {K : Type 
     pub found : {Γ : List (Item 𝓤)} → K → {i : ℕ} {e : Ty × ℕ} {st : List PlaceStep} {sp : Spot 𝓤 H} → getD E i (noLocal 𝓤 H) ≡ e → Walks K W Γ E (e .0, e .1, 0) st sp → Finds K W Γ E (place i st) sp
     found {Γ} t {i} {e} {st} is w = record { go = λ Kt h. subst (λ (l : Ty × ℕ). ent 𝓤 (⋆ 𝓤 H A Γ) (walk 𝓤 H E (l .0, l .1, 0) st Kt)) (sym is) (w .go Kt h) }
 
-    -- operands that are read in a context are read in another that says the same: in one with entry n in front, and in one with the first local apart
+    -- operands that are read in a context are read in one that says the same. Two such: with entry n in front, and with the first local apart
     regrouped : (Γ Δ : List (Item 𝓤)) {xs : List Operand} {vs : List Val} → ent 𝓤 (⋆ 𝓤 H A Γ) (⋆ 𝓤 H A Δ) → ent 𝓤 (⋆ 𝓤 H A Δ) (⋆ 𝓤 H A Γ) → Opds K W Δ E xs vs → Opds K W Γ E xs vs
     regrouped Γ Δ to back os = record { go = λ Kt h. via 𝓤 (⋆ 𝓤 H A Δ) to (os .go Kt (via 𝓤 (⋆ 𝓤 H A Γ) back h)) }
 

@@ -42,14 +42,14 @@ environment τs made bs ms e₀ e₁ e₂ e₃ = e₀ ∷ e₁ ∷ (env τs bs +
 -- after those statements the locals made hold us, and the operands are the arguments vs
 pub record Hands {M : Type 1} {𝓤 : URA M} {H : Heap 𝓤} {A : Atoms 𝓤} (W : Given 𝓤 H A) (τs : List Ty) (vs : List Val) (g : Handing) : Type 2 where
   pub us : List Val
-  pub well : Typed (g .made) us
+  pub typed : Typed (g .made) us
   pub runs-before : (Γ : List (Item 𝓤)) (C : Calls 𝓤 H) (Λ : Loops 𝓤 H) (bs : Blocks τs) (ms : Blocks (g .made)) (e₀ e₁ e₂ e₃ : Ty × ℕ) (rest : Body) (q : Post 𝓤 H)
       → Step (Go {0}) W (‵ (cells τs bs vs) ∷ ‵ (cells (g .made) ms us) ∷ Γ) (runs C Λ (environment τs (g .made) bs ms e₀ e₁ e₂ e₃) rest q)
       (‵ (cells τs bs vs) ∷ ‵ (rooms (g .made) ms) ∷ Γ) (runs C Λ (environment τs (g .made) bs ms e₀ e₁ e₂ e₃) (g .before rest) q)
   pub read : (i : Item 𝓤) (Γ : List (Item 𝓤)) (bs : Blocks τs) (ms : Blocks (g .made)) (e₀ e₁ e₂ e₃ : Ty × ℕ)
       → Opds (Go {0}) W (i ∷ ‵ (cells τs bs vs) ∷ ‵ (cells (g .made) ms us) ∷ Γ) (environment τs (g .made) bs ms e₀ e₁ e₂ e₃) (g .operands) vs
 
--- what the further parameters bring, and the two contracts: the lifetimes' tokens, what is owned, what is required, what is said of the last values, what the callee ensures, and what the function does
+-- the further parameters and the two contracts: the lifetimes' tokens, what is owned, what is required, what is said of the last values, what the callee ensures, and what the function ensures, which follows
 pub record Further {M : Type 1} (𝓤 : URA M) (O : Outcome) : Type 2 where
   pub tokens : SProp 𝓤
   pub owned : Fml
@@ -78,15 +78,15 @@ module _ (O : Outcome) where
   }
 
   module _ {M : Type 1} (𝓤 : URA M) (H : Heap 𝓤) (A : Atoms 𝓤) (h : StateT O) (f : Further 𝓤 O) where
-    -- what the callee asks, and what it gives
+    -- what the callee asks, what it ensures of its result and of the last values, and what it gives
     abbrev pub Asked : Item 𝓤
     Asked = (raw (f .tokens) ⊛ ‵ (fsep (R .own h (state-val O h ∷ [])) (f .owned))) ⊛ raw (f .required)
 
-    abbrev Given-back : O .D → SProp 𝓤
-    Given-back r = ex 𝓤 (λ (l : Unit {0} × f .Last). sep 𝓤 (sem 𝓤 H A (fsep ftrue (f .left (l .1)))) (f .gives r (l .1)))
+    abbrev Ensures : O .D → SProp 𝓤
+    Ensures r = ex 𝓤 (λ (l : Unit {0} × f .Last). sep 𝓤 (sem 𝓤 H A (fsep ftrue (f .left (l .1)))) (f .gives r (l .1)))
 
     abbrev pub Gives : Val → SProp 𝓤
-    Gives u = H .⇛ (ex 𝓤 (λ (r : O .D). sep 𝓤 (sep 𝓤 (f .tokens) (sem 𝓤 H A (outcome-row O .own r (u ∷ [])))) (Given-back r)))
+    Gives u = H .⇛ (ex 𝓤 (λ (r : O .D). sep 𝓤 (sep 𝓤 (f .tokens) (sem 𝓤 H A (outcome-row O .own r (u ∷ [])))) (Ensures r)))
 
     module _ (W : Given 𝓤 H A) (κ : Lft) (q : Share) (b o : ℕ) (γ : GName) where
       -- the same of the function itself
@@ -103,12 +103,12 @@ module _ (O : Outcome) where
       Exit v = H .⇛ (ex 𝓤 (Result v))
 
       abbrev Ending : O .D → Val → List (Item 𝓤)
-      Ending r v = ‵ (answer-row O .own (O .answer r) (v ∷ [])) ∷ ‵ (fobs γ (R .coded .code (O .state r))) ∷ ‵ (fbor κ (Borrowed (mem R) b o γ)) ∷ ‵ (flft κ q) ∷ raw (f .tokens) ∷ raw (Given-back r) ∷ []
+      Ending r v = ‵ (answer-row O .own (O .answer r) (v ∷ [])) ∷ ‵ (fobs γ (R .coded .code (O .state r))) ∷ ‵ (fbor κ (Borrowed (mem R) b o γ)) ∷ ‵ (flft κ q) ∷ raw (f .tokens) ∷ raw (Ensures r) ∷ []
 
       exits : (r : O .D) (v : Val) → ent 𝓤 (⋆ 𝓤 H A (Ending r v)) (Exit v)
       exits r v =
           qed W (Ending r v) ∵ updating ! $ at-once ! $ show ! (Result v) (O .answer r) $ move ! (3 ∷ 4 ∷ []) $ join ! $ join ! $ frame ! $
-          -- [obs; the borrow; what the callee gives back]
+          -- [obs; the borrow; what the callee ensures]
           move ! (2 ∷ []) $ use1 W (some (λ (l : Unit {0} × f .Last). ‵ (fsep ftrue (f .left (l .1))) ⊛ raw (f .gives r (l .1)))) (id⊢ 𝓤 _) $ pick ! (λ l. split ! $ fsplit ! $ drop ! $
           -- [what is said of the last values; what the callee ensures; obs; the borrow]
           move ! (1 ∷ []) $ use1 W (raw (f .says (O .answer r) (O .state r) (l .1))) (f .so r (l .1)) $
@@ -138,13 +138,13 @@ module _ (O : Outcome) where
             -- [the further parameters; the locals made; what the state owns; its cell; the open borrow; obs; auth; state; …; after; …; _1; …; _0; …; what the further parameters own at 15; …]
             move ! (2 ∷ 15 ∷ 16 ∷ 17 ∷ []) $ fjoin ! $ move ! (1 ∷ 0 ∷ []) $ join ! $ join ! $
             calls-from ! fm Asked (state-val O h ∷ vs) Gives met (and-then ! (load ! (found ! (at-state bs ms l₂ l₃) (stop !)) (look ! 7 refl)) (hands .read Asked _ bs ms _ _ _ _)) (λ u.
-            use1 W (later (some (λ (r : O .D). (raw (f .tokens) ⊛ ‵ (outcome-row O .own r (u ∷ []))) ⊛ raw (Given-back r)))) (id⊢ 𝓤 _) $ await ! tt $ pick ! (λ r. split ! $ split ! $ move ! (1 ∷ []) $ peeks ! (outcome-row O) (Is (outcome-row O)) (shows 𝓤 H A (outcome-row O)) r (u ∷ []) (λ is. drop ! $
-            -- [the tokens; what the callee gives back; the further parameters; the locals made; the cell at 4; the open borrow; obs; auth; state; …; after; …; _1; …; _0; …]
+            use1 W (later (some (λ (r : O .D). (raw (f .tokens) ⊛ ‵ (outcome-row O .own r (u ∷ []))) ⊛ raw (Ensures r)))) (id⊢ 𝓤 _) $ await ! tt $ pick ! (λ r. split ! $ split ! $ move ! (1 ∷ []) $ peeks ! (outcome-row O) (Is (outcome-row O)) (shows 𝓤 H A (outcome-row O)) r (u ∷ []) (λ is. drop ! $
+            -- [the tokens; what the callee ensures; the further parameters; the locals made; the cell at 4; the open borrow; obs; auth; state; …; after; …; _1; …; _0; …]
             land ! (found ! (at-after bs ms l₂ l₃) (stop !)) (init ! 10 refl (outcome-typed O r u is 𝓤 H A W)) $ rewrite ! 10 (λ (v : Val). ‵ (fat fullShare (outcome-ty O) l₂ 0 v)) (spelt O r u is) refl $
             assigns ! (of-opd ! (load ! (found ! (at-after bs ms l₂ l₃) (fld ! refl (stop !))) (look-in ! 10 (sub ! 0 refl (whole !))))) (from ! (hop ! (look ! 12 refl) (stop !))) (store-raw ! 4 refl (state-typed O 𝓤 H A W (O .state r) (is-state O r u is))) $
             assigns ! (of-opd ! (load ! (found ! (at-after bs ms l₂ l₃) (fld ! refl (stop !))) (look-in ! 10 (sub ! 1 refl (whole !))))) (from ! (stop !)) (init ! 14 refl (answer-typed O 𝓤 H A W (O .answer r) (is-answer O r u is))) $
             owned ! R (Is R) (LL.makes (O .states .type) (O .states .plain) 𝓤 H A) (O .state r) _ (is-state O r u is) $ move ! (5 ∷ 0 ∷ 6 ∷ 7 ∷ 8 ∷ []) $ closes ! tt R (O .state r) (state-val O (O .state r) ∷ []) b o $
-            -- [obs; the borrow; its token; the tokens; what the callee gives back; the further parameters; the locals made; state at 7; …; after; …; _1; …; _0; …]
+            -- [obs; the borrow; its token; the tokens; what the callee ensures; the further parameters; the locals made; state at 7; …; after; …; _1; …; _0; …]
             returns ! (look ! 13 refl) $ forget ! 7 refl $ forget ! 9 refl $ forget ! 11 refl $ forget ! 13 refl $
-            move ! (13 ∷ 14 ∷ []) $ free1 ! $ move ! (11 ∷ 12 ∷ []) $ free1 ! $ move ! (5 ∷ []) $ free ! τs bs vs ok _ $ move ! (8 ∷ 9 ∷ []) $ free1 ! $ move ! (6 ∷ 7 ∷ []) $ free1 ! $ move ! (5 ∷ []) $ free ! (g .made) ms (hands .us) (hands .well) [] $ free0 ! $
+            move ! (13 ∷ 14 ∷ []) $ free1 ! $ move ! (11 ∷ 12 ∷ []) $ free1 ! $ move ! (5 ∷ []) $ free ! τs bs vs ok _ $ move ! (8 ∷ 9 ∷ []) $ free1 ! $ move ! (6 ∷ 7 ∷ []) $ free1 ! $ move ! (5 ∷ []) $ free ! (g .made) ms (hands .us) (hands .typed) [] $ free0 ! $
             owned ! (answer-row O) (Is (answer-row O)) (EL.makes (O .answers .type) (O .answers .plain) 𝓤 H A) (O .answer r) _ (is-answer O r u is) $ by ! (exits r _))))))))))))

@@ -1,5 +1,5 @@
--- `in_place::start_command` meets at its reference what `command::start_command` meets by value.
--- By the walk of all such functions (`InPlace.antt`).
+-- `in_place::start_command` meets its contract: of the record behind its reference it ensures what `command::start_command` ensures of a record by value.
+-- By the one walk of all such functions (`InPlace.antt`). What it asks is that the callee's clause gives the function's, that the code is the walk's, and that the callee meets its contract.
 use mathlib.Core.List.{[], _∷_, List}
 use mathlib.Core.Path.{refl}
 use base.Logic.{id⊢}
@@ -11,9 +11,10 @@ use Rattle.command.proofs.start_command as callee
 use Rattle.command.proofs.start_command.Met as callee-thm
 use Rattle.command.proofs.start_command.Symbol as callee-def
 use Rattle.command.proofs.start_command.Symbol.{name as #callee}
-use Rattle.in_place.proofs.InPlace.{Param, by-value, at-end, in-place}
+use Rattle.in_place.proofs.InPlace.{by-value, at-end, in-place}
 use Rattle.in_place.proofs.Panel.{entry-outcome}
-use Rattle.in_place.proofs.Params.{slice, copied}
+use Rattle.in_place.proofs.Params.{Param, slice}
+use Rattle.in_place.proofs.Passing.{copied}
 use Rattle.in_place.proofs.start_command as self
 use Rattle.in_place.proofs.start_command.Code as code
 use Rattle.in_place.proofs.start_command.Key.{name as #self}

@@ -1,5 +1,5 @@
--- `in_place::start_walk` meets at its reference what `table::start_walk` meets by value.
--- By the walk of all such functions (`InPlace.antt`).
+-- `in_place::start_walk` meets its contract: of the record behind its reference it ensures what `table::start_walk` ensures of a record by value.
+-- By the one walk of all such functions (`InPlace.antt`). What it asks is that the callee's clause gives the function's, that the code is the walk's, and that the callee meets its contract.
 use mathlib.Core.List.{[], _∷_, List}
 use mathlib.Core.Path.{refl}
 use base.Logic.{id⊢}
@@ -11,9 +11,10 @@ use Rattle.table.proofs.start_walk as callee
 use Rattle.table.proofs.start_walk.Met as callee-thm
 use Rattle.table.proofs.start_walk.Symbol as callee-def
 use Rattle.table.proofs.start_walk.Symbol.{name as #callee}
-use Rattle.in_place.proofs.InPlace.{Param, by-value, at-end, in-place}
+use Rattle.in_place.proofs.InPlace.{by-value, at-end, in-place}
 use Rattle.in_place.proofs.Panel.{start-outcome}
-use Rattle.in_place.proofs.Params.{number, slice, copied}
+use Rattle.in_place.proofs.Params.{Param, number, slice}
+use Rattle.in_place.proofs.Passing.{copied}
 use Rattle.in_place.proofs.start_walk as self
 use Rattle.in_place.proofs.start_walk.Code as code
 use Rattle.in_place.proofs.start_walk.Key.{name as #self}

@@ -1,5 +1,5 @@
--- `in_place::step_reader` meets at its reference what `reader_step::step_reader` meets by value.
--- By the walk of all such functions (`InPlace.antt`).
+-- `in_place::step_reader` meets its contract: of the record behind its reference it ensures what `reader_step::step_reader` ensures of a record by value.
+-- By the one walk of all such functions (`InPlace.antt`). What it asks is that the callee's clause gives the function's, that the code is the walk's, and that the callee meets its contract.
 use mathlib.Core.List.{[], _∷_, List}
 use mathlib.Core.Path.{refl}
 use base.Logic.{id⊢}
@@ -11,9 +11,10 @@ use Rattle.reader_step.proofs.step_reader as callee
 use Rattle.reader_step.proofs.step_reader.Met as callee-thm
 use Rattle.reader_step.proofs.step_reader.Symbol as callee-def
 use Rattle.reader_step.proofs.step_reader.Symbol.{name as #callee}
-use Rattle.in_place.proofs.InPlace.{Param, by-value, at-end, in-place}
+use Rattle.in_place.proofs.InPlace.{by-value, at-end, in-place}
 use Rattle.in_place.proofs.Panel.{reader-outcome}
-use Rattle.in_place.proofs.Params.{number, slice, copied}
+use Rattle.in_place.proofs.Params.{Param, number, slice}
+use Rattle.in_place.proofs.Passing.{copied}
 use Rattle.in_place.proofs.step_reader as self
 use Rattle.in_place.proofs.step_reader.Code as code
 use Rattle.in_place.proofs.step_reader.Key.{name as #self}

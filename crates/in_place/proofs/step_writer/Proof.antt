@@ -1,5 +1,5 @@
--- `in_place::step_writer` meets at its reference what `writer::step_writer` meets by value.
--- By the walk of all such functions (`InPlace.antt`).
+-- `in_place::step_writer` meets its contract: of the record behind its reference it ensures what `writer::step_writer` ensures of a record by value.
+-- By the one walk of all such functions (`InPlace.antt`). What it asks is that the callee's clause gives the function's, that the code is the walk's, and that the callee meets its contract.
 use mathlib.Core.List.{[], _∷_, List}
 use mathlib.Core.Path.{refl}
 use base.Logic.{id⊢}
@@ -11,9 +11,10 @@ use Rattle.writer.proofs.step_writer as callee
 use Rattle.writer.proofs.step_writer.Met as callee-thm
 use Rattle.writer.proofs.step_writer.Symbol as callee-def
 use Rattle.writer.proofs.step_writer.Symbol.{name as #callee}
-use Rattle.in_place.proofs.InPlace.{Param, by-value, at-end, in-place}
+use Rattle.in_place.proofs.InPlace.{by-value, at-end, in-place}
 use Rattle.in_place.proofs.Panel.{writer-outcome}
-use Rattle.in_place.proofs.Params.{slice-mut, lent}
+use Rattle.in_place.proofs.Params.{Param, slice-mut}
+use Rattle.in_place.proofs.Passing.{lent}
 use Rattle.in_place.proofs.step_writer as self
 use Rattle.in_place.proofs.step_writer.Code as code
 use Rattle.in_place.proofs.step_writer.Key.{name as #self}

@@ -48,7 +48,7 @@ pub(crate) fn largest_index(words: &[u64], places: &[u32], count: usize, m: u32,
     let mut largest = 0;
     let mut i = 0;
     while i < count {
-        largest = larger(largest, index_of(m, k, point_of(words[i]), places[i]));
+        largest = larger(index_of(m, k, point_of(words[i]), places[i]), largest);
         i += 1;
     }
     largest

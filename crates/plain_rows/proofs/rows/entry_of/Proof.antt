@@ -1,63 +1,76 @@
+-- `plain_rows::rows::entry_of` meets its contract: from the newest row down, the first of the point.
+-- Assumes nothing.
+use Prim.Native.Nat.{ℕ, _-_, _≤_, _<_}
+use mathlib.Core.Path.{_≡_, refl, _∙_, sym, ap}
+use native.Mathlib.Omega.{arith}
+use borrow.Author.Needs.{needs}
+use denote.Ref.{now}
+use lib.ListN.{getD}
+use Rattle.plain_list.specs.PlainList.{present, entryOf}
+use Rattle.plain_rows.specs.Rows.{rowsOf}
+use Rattle.plain_rows.proofs.RowsLaws.{entry-newest, entry-older}
 use Rattle.plain_rows.proofs.rows.entry_of.Statement.{statement}
 use Rattle.plain_rows.proofs.rows.entry_of.Tie as tie
-use Rattle.plain_rows.proofs.rows.entry_of.Reads as reads
-use Rattle.plain_rows.proofs.rows.entry_of.Lts as lts
-use Rattle.slot_words.proofs.word.point_of.Reads as point-of-reads
-use Rattle.slot_words.proofs.word.value_of.Reads as value-of-reads
 
 abbrev Inv-loop : tie.InvT-loop
-Inv-loop words places count point i₀ i = ?
+Inv-loop words places count point i₀ i = (i ≤ count) × (entryOf point (rowsOf words places i) ≡ entryOf point (rowsOf words places count))
 
 abbrev μ-loop : tie.MeasureT-loop
-μ-loop words places count point i₀ i = ?
+μ-loop words places count point i₀ i = i
 
--- src/rows.rt:35:5
 loop-holds : tie.Need-loop-holds Inv-loop μ-loop
-loop-holds c = ?
+loop-holds c = (omega arith, refl)
 
--- src/rows.rt:36:9
 sub-i : tie.Need-sub-i Inv-loop μ-loop
-sub-i c = ?
+sub-i c = search needs
 
--- src/rows.rt:37:20
 mul-word : tie.Need-mul-word Inv-loop μ-loop
-mul-word c = ?
+mul-word c = search needs
 
--- src/rows.rt:37:20
 shared-slice-read-word : tie.Need-shared-slice-read-word Inv-loop μ-loop
-shared-slice-read-word c = ?
+shared-slice-read-word c = search needs
 
--- src/rows.rt:38:12
 point-of-requires : tie.Need-point-of-requires Inv-loop μ-loop
-point-of-requires c κs = ?
+point-of-requires c κs = search needs
 
--- src/rows.rt:40:24
 value-of-requires : tie.Need-value-of-requires Inv-loop μ-loop
-value-of-requires c κs = ?
+value-of-requires c κs = search needs
 
--- src/rows.rt:41:24
 mul-t13 : tie.Need-mul-t13 Inv-loop μ-loop
-mul-t13 c = ?
+mul-t13 c = search needs
 
--- src/rows.rt:41:24
 shared-slice-read-t15 : tie.Need-shared-slice-read-t15 Inv-loop μ-loop
-shared-slice-read-t15 c = ?
+shared-slice-read-t15 c = search needs
 
--- src/rows.rt:39:13
 returns : tie.Need-returns Inv-loop μ-loop
-returns c = ?
+returns c =
+    let l = c .before .before .before .before .before .before .loop in
+    let a = c .before .before .before .before .before .before .before .before .before .args in
+    let some : 0 < l .i = omega arith in
+    let same = sym (c .before .before .before .point-of .ensures) ∙ c .before .before .if1 .taken in
+    ap (λ (v : ℕ). present v (getD (now (a .places)) (l .i - 1) 0)) (c .before .value-of .ensures)
+    ∙ sym (entry-newest (now (a .words)) (now (a .places)) (l .i) (a .point) some same)
+    ∙ l .inv .1
 
--- src/rows.rt:35:5
 loop-less : tie.Need-loop-less Inv-loop μ-loop
-loop-less c = ?
+loop-less c = search needs
 
--- src/rows.rt:35:5
 loop-again : tie.Need-loop-again Inv-loop μ-loop
-loop-again c = ?
+loop-again c =
+    let l = c .before .before .before .before .loop in
+    let a = c .before .before .before .before .before .before .before .args in
+    let some : 0 < l .i = omega arith in (
+      omega arith,
+      sym (entry-older (now (a .words)) (now (a .places)) (l .i) (a .point) some (λ e. c .if1 .left (c .before .point-of .ensures ∙ e))) ∙ l .inv .1,
+    )
 
--- src/rows.rt:30:1
 returns-2 : tie.Need-returns-2 Inv-loop μ-loop
-returns-2 c = ?
+unfolding rowsOf entryOf
+returns-2 c =
+    let l = c .before .loop in
+    let a = c .before .before .before .before .args in
+    let none : l .i ≡ 0 = omega (arith, c .loop-test) in
+    sym (ap (λ (n : ℕ). entryOf (a .point) (rowsOf (now (a .words)) (now (a .places)) n)) none) ∙ l .inv .1
 
 pub entry-of-spec : {M : Type 1} → statement M
 entry-of-spec =

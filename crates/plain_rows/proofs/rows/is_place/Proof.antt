@@ -1,45 +1,59 @@
+-- `plain_rows::rows::is_place` meets its contract: from the newest row down, none has the place so far.
+-- Assumes nothing.
+use Prim.Native.Nat.{ℕ, _≤_}
+use mathlib.Core.List.{List}
+use mathlib.Core.Path.{_≡_, refl, _∙_, sym, ap}
+use native.Mathlib.Omega.{arith}
+use borrow.Author.Needs.{needs}
+use denote.Ref.{now}
+use Rattle.plain_list.specs.PlainList.{isPlace}
+use Rattle.plain_rows.specs.Rows.{rowsOf}
+use Rattle.plain_rows.proofs.RowsLaws.{place-newest, place-older}
 use Rattle.plain_rows.proofs.rows.is_place.Statement.{statement}
 use Rattle.plain_rows.proofs.rows.is_place.Tie as tie
-use Rattle.plain_rows.proofs.rows.is_place.Reads as reads
-use Rattle.plain_rows.proofs.rows.is_place.Lts as lts
 
 abbrev Inv-loop : tie.InvT-loop
-Inv-loop places count place i₀ i = ?
+Inv-loop places count place i₀ i = (i ≤ count) × ((words : List ℕ) → isPlace place (rowsOf words places i) ≡ isPlace place (rowsOf words places count))
 
 abbrev μ-loop : tie.MeasureT-loop
-μ-loop places count place i₀ i = ?
+μ-loop places count place i₀ i = i
 
--- src/rows.rt:54:5
 loop-holds : tie.Need-loop-holds Inv-loop μ-loop
-loop-holds c = ?
+loop-holds c = (omega arith, λ words. refl)
 
--- src/rows.rt:55:9
 sub-i : tie.Need-sub-i Inv-loop μ-loop
-sub-i c = ?
+sub-i c = search needs
 
--- src/rows.rt:56:12
 mul-if1 : tie.Need-mul-if1 Inv-loop μ-loop
-mul-if1 c = ?
+mul-if1 c = search needs
 
--- src/rows.rt:56:12
 shared-slice-read-if1 : tie.Need-shared-slice-read-if1 Inv-loop μ-loop
-shared-slice-read-if1 c = ?
+shared-slice-read-if1 c = search needs
 
--- src/rows.rt:57:13
 returns : tie.Need-returns Inv-loop μ-loop
-returns c = ?
+returns c =
+    let l = c .before .before .before .loop in
+    let a = c .before .before .before .before .args in
+    λ words. sym (place-newest words (now (a .places)) (l .i) (a .place) (omega arith) (c .if1 .taken)) ∙ l .inv .1 words
 
--- src/rows.rt:54:5
 loop-less : tie.Need-loop-less Inv-loop μ-loop
-loop-less c = ?
+loop-less c = search needs
 
--- src/rows.rt:54:5
 loop-again : tie.Need-loop-again Inv-loop μ-loop
-loop-again c = ?
+loop-again c =
+    let l = c .before .before .before .loop in
+    let a = c .before .before .before .before .args in (
+      omega arith,
+      λ words. sym (place-older words (now (a .places)) (l .i) (a .place) (omega arith) (c .if1 .left)) ∙ l .inv .1 words,
+    )
 
--- src/rows.rt:49:1
 returns-2 : tie.Need-returns-2 Inv-loop μ-loop
-returns-2 c = ?
+unfolding rowsOf isPlace
+returns-2 c =
+    let l = c .before .loop in
+    let a = c .before .before .args in
+    let none : l .i ≡ 0 = omega (arith, c .loop-test) in
+    λ words. sym (ap (λ (n : ℕ). isPlace (a .place) (rowsOf words (now (a .places)) n)) none) ∙ l .inv .1 words
 
 pub is-place-spec : {M : Type 1} → statement M
 is-place-spec =

@@ -1,58 +1,65 @@
+-- `plain_rows::rows::with_value` meets its contract: so far for the rows passed.
+-- Assumes nothing.
+use Prim.Native.Nat.{_-_, _≤_}
+use mathlib.Core.Path.{_≡_, refl}
+use native.Mathlib.Omega.{arith}
+use borrow.Author.Needs.{needs}
+use denote.Ref.{now}
+use lib.ListN.{length, length-set}
+use Rattle.plain_rows.specs.Rows.{Revalues}
+use Rattle.plain_rows.proofs.StoreLaws.{revalues-none, revalues-more}
 use Rattle.plain_rows.proofs.rows.with_value.Statement.{statement}
 use Rattle.plain_rows.proofs.rows.with_value.Tie as tie
-use Rattle.plain_rows.proofs.rows.with_value.Reads as reads
-use Rattle.plain_rows.proofs.rows.with_value.Lts as lts
-use Rattle.plain_rows.proofs.rows.revalued.Reads as revalued-reads
 
 abbrev Inv-loop : tie.InvT-loop
-Inv-loop words₀ count point value i₀ words i = ?
+Inv-loop words₀ count point value i₀ words i = (i ≤ count) × (length words ≡ length words₀) × Revalues words₀ words i point value
 
 abbrev μ-loop : tie.MeasureT-loop
-μ-loop words₀ count point value i₀ words i = ?
+μ-loop words₀ count point value i₀ words i = count - i
 
--- src/rows.rt:69:5
 loop-holds : tie.Need-loop-holds Inv-loop μ-loop
-loop-holds c = ?
+loop-holds c =
+    (omega arith, refl, revalues-none (now (c .before .args .words)) (c .before .args .point) (c .before .args .value))
 
--- src/rows.rt:70:29
 mul-revalued : tie.Need-mul-revalued Inv-loop μ-loop
-mul-revalued c = ?
+mul-revalued c = search needs
 
--- src/rows.rt:70:29
 slice-read-revalued : tie.Need-slice-read-revalued Inv-loop μ-loop
-slice-read-revalued c = ?
+slice-read-revalued c = search needs
 
--- src/rows.rt:70:20
 revalued-requires : tie.Need-revalued-requires Inv-loop μ-loop
-revalued-requires c κs = ?
+revalued-requires c κs = search needs
 
--- src/rows.rt:70:9
 mul-words : tie.Need-mul-words Inv-loop μ-loop
-mul-words c = ?
+mul-words c = search needs
 
--- src/rows.rt:70:9
 slice-write-words : tie.Need-slice-write-words Inv-loop μ-loop
-slice-write-words c = ?
+slice-write-words c = search needs
 
--- src/rows.rt:71:9
 add-i : tie.Need-add-i Inv-loop μ-loop
-add-i c = ?
+add-i c = search needs
 
--- src/rows.rt:69:5
 loop-less : tie.Need-loop-less Inv-loop μ-loop
-loop-less c = ?
+loop-less c = search needs
 
--- src/rows.rt:69:5
 loop-again : tie.Need-loop-again Inv-loop μ-loop
-loop-again c = ?
+loop-again c =
+    let l = c .before .before .before .loop in
+    let a = c .before .before .before .before .before .args in (
+      omega arith,
+      simp length-set (l .inv .1),
+      rw (c .revalued .ensures) (revalues-more (now (a .words)) (a .point) (a .value) (l .words) (l .i) (l .inv .2) (omega arith) (omega arith)),
+    )
 
--- src/rows.rt:64:1
 same-length : tie.Need-same-length Inv-loop μ-loop
-same-length c = ?
+same-length c = c .before .loop .inv .1
 
--- src/rows.rt:64:1
 returns : tie.Need-returns Inv-loop μ-loop
-returns c = ?
+returns c =
+    let l = c .before .loop in
+    let a = c .before .before .before .args in
+    let all : l .i ≡ a .count = omega arith in
+    rw (← all) (l .inv .2)
 
 pub with-value-spec : {M : Type 1} → statement M
 with-value-spec =

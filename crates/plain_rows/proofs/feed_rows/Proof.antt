@@ -1,79 +1,74 @@
+-- `plain_rows::feed_rows` meets its contract, operation by operation.
+-- Assumes nothing.
+use mathlib.Core.Path.{_∙_, refl, sym, ap}
 use borrow.Author.Needs.{needs}
+use denote.Ref.{now}
+use Rattle.answers.specs.Answers.{refused}
+use Rattle.plain_list.specs.PlainList.{feed}
+use Rattle.plain_rows.specs.Fed.{operationOf, fedRows}
+use Rattle.plain_rows.proofs.FedLaws.{feeds-nothing}
 use Rattle.plain_rows.proofs.feed_rows.Statement.{statement}
 use Rattle.plain_rows.proofs.feed_rows.Tie as tie
-use Rattle.plain_rows.proofs.feed_rows.Reads as reads
-use Rattle.plain_rows.proofs.feed_rows.Lts as lts
-use Rattle.plain_rows.proofs.operations.change_row.Reads as change-row-reads
-use Rattle.plain_rows.proofs.operations.put_row.Reads as put-row-reads
-use Rattle.plain_rows.proofs.operations.remove_row.Reads as remove-row-reads
 
--- src/lib.rt:65:41
 enum-told : tie.Need-enum-told
 enum-told c = search needs
 
--- src/lib.rt:67:26
 enum-known-operation : tie.Need-enum-known-operation
 enum-known-operation c = search needs
 
--- src/lib.rt:67:44
 put-row-requires : tie.Need-put-row-requires
 put-row-requires c κs = search needs
 
--- src/lib.rt:68:29
 enum-known-operation-2 : tie.Need-enum-known-operation-2
 enum-known-operation-2 c = search needs
 
--- src/lib.rt:68:52
 change-row-requires : tie.Need-change-row-requires
 change-row-requires c κs = search needs
 
--- src/lib.rt:76:30
 enum-known-operation-3 : tie.Need-enum-known-operation-3
 enum-known-operation-3 c = search needs
 
--- src/lib.rt:76:41
 remove-row-requires : tie.Need-remove-row-requires
 remove-row-requires c κs = search needs
 
--- src/lib.rt:51:1
 returns : tie.Need-returns
-returns c = ?
+unfolding fedRows feed
+returns c =
+    let a = c .before .before .before .before .args in
+    feeds-nothing (now (a .words)) (now (a .places)) (a .count) (c .before .before .before .before .pre) _ _ (refused 5) refl refl (rw (c .enum-told .given .1))
 
--- src/lib.rt:51:1
 same-length : tie.Need-same-length
 same-length c = search needs
 
--- src/lib.rt:51:1
 same-length-2 : tie.Need-same-length-2
 same-length-2 c = search needs
 
--- src/lib.rt:51:1
 returns-2 : tie.Need-returns-2
-returns-2 c = ?
+unfolding fedRows feed
+returns-2 c =
+    rw (c .before .before .before .before .before .before .before .before .operation .given .1) (c .before .before .before .before .put-row .ensures)
 
--- src/lib.rt:51:1
 same-length-3 : tie.Need-same-length-3
 same-length-3 c = search needs
 
--- src/lib.rt:51:1
 same-length-4 : tie.Need-same-length-4
 same-length-4 c = search needs
 
--- src/lib.rt:51:1
 returns-3 : tie.Need-returns-3
-returns-3 c = ?
+unfolding fedRows feed
+returns-3 c =
+    rw (c .before .before .before .before .before .before .before .before .operation2 .given .1) (c .before .before .before .before .change-row .ensures)
 
--- src/lib.rt:51:1
 same-length-5 : tie.Need-same-length-5
 same-length-5 c = search needs
 
--- src/lib.rt:51:1
 same-length-6 : tie.Need-same-length-6
 same-length-6 c = search needs
 
--- src/lib.rt:51:1
 returns-4 : tie.Need-returns-4
-returns-4 c = ?
+unfolding fedRows feed
+returns-4 c =
+    rw (c .before .before .before .before .before .before .before .before .operation3 .given .1) (c .before .before .before .before .remove-row .ensures)
 
 pub feed-rows-spec : {M : Type 1} → statement M
 feed-rows-spec =

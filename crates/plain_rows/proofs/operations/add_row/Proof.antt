@@ -1,73 +1,78 @@
+-- `plain_rows::operations::add_row` meets its contract: no position is free, there is no room, or the row is stored.
+-- Assumes nothing.
+use mathlib.Core.Path.{_∙_, refl, sym}
+use native.Mathlib.Omega.{arith}
+use borrow.Author.Tests.{not-true, not-false}
 use borrow.Author.Needs.{needs}
+use denote.Ref.{now}
+use Rattle.answers.specs.Answers.{endedWith}
+use Rattle.plain_list.specs.PlainList.{addRow}
+use Rattle.plain_rows.specs.Rows.{rowsOf}
+use Rattle.plain_rows.proofs.FedLaws.{row-room, feeds-nothing, feeds-row, misfits-row, row-added}
 use Rattle.plain_rows.proofs.operations.add_row.Statement.{statement}
 use Rattle.plain_rows.proofs.operations.add_row.Tie as tie
-use Rattle.plain_rows.proofs.operations.add_row.Reads as reads
-use Rattle.plain_rows.proofs.operations.add_row.Lts as lts
-use Rattle.hash.proofs.position.Reads as position-reads
-use Rattle.plain_rows.proofs.operations.misfit.Reads as misfit-reads
-use Rattle.plain_rows.proofs.operations.placed.Reads as placed-reads
-use Rattle.refusal.proofs.tests.both_hold.Reads as both-hold-reads
-use Rattle.slot_words.proofs.word.word_of.Reads as word-of-reads
 
--- src/operations.rt:94:9
 returns : tie.Need-returns
-returns c = ?
+unfolding addRow
+returns c =
+    let a = c .before .before .before .args in
+    feeds-nothing (now (a .words)) (now (a .places)) (a .count) (c .before .before .before .pre) _ _ (endedWith 6) refl refl (rw (c .if1 .taken))
 
--- src/operations.rt:99:9
 both-hold-requires : tie.Need-both-hold-requires
 both-hold-requires c κs = search needs
 
--- src/operations.rt:100:9
 misfit-requires : tie.Need-misfit-requires
 misfit-requires c κs = search needs
 
--- src/operations.rt:100:9
 returns-2 : tie.Need-returns-2
-returns-2 c = ?
+returns-2 c =
+    let a = c .before .before .before .before .before .before .args in
+    let none = sym (c .before .before .both-hold .ensures) ∙ not-true _ (c .before .if2 .taken) in
+    misfits-row (now (a .words)) (now (a .places)) (a .count) (c .misfit .result) _ _ _ none (row-added (a .m) (a .k) (a .point) (a .value) (a .index) _ _ (c .before .before .before .if1 .left) refl) (c .misfit .ensures .0) (c .misfit .ensures .1)
 
--- src/operations.rt:102:9
 position-requires : tie.Need-position-requires
 position-requires c κs = search needs
 
--- src/operations.rt:103:20
 word-of-requires : tie.Need-word-of-requires
 word-of-requires c κs = search needs
 
--- src/operations.rt:103:5
 mul-words : tie.Need-mul-words
 mul-words c = search needs
 
--- src/operations.rt:103:5
 slice-write-words : tie.Need-slice-write-words
-slice-write-words c = ?
+slice-write-words c =
+    let a = c .before .before .before .before .before .before .before .args in
+    let room = row-room (now (a .words)) (now (a .places)) (a .count) (sym (c .before .before .before .both-hold .ensures) ∙ not-false _ (c .before .before .if2 .left)) in
+    omega (arith, room .in-words)
 
--- src/operations.rt:104:5
 mul-places : tie.Need-mul-places
 mul-places c = search needs
 
--- src/operations.rt:104:5
 slice-write-places : tie.Need-slice-write-places
-slice-write-places c = ?
+slice-write-places c =
+    let a = c .before .before .before .before .before .before .before .args in
+    let room = row-room (now (a .words)) (now (a .places)) (a .count) (sym (c .before .before .before .both-hold .ensures) ∙ not-false _ (c .before .before .if2 .left)) in
+    omega (arith, room .in-places)
 
--- src/operations.rt:105:12
 add-placed : tie.Need-add-placed
 add-placed c = search needs
 
--- src/operations.rt:105:5
 placed-requires : tie.Need-placed-requires
 placed-requires c κs = search needs
 
--- src/operations.rt:80:1
 same-length : tie.Need-same-length
 same-length c = search needs
 
--- src/operations.rt:80:1
 same-length-2 : tie.Need-same-length-2
 same-length-2 c = search needs
 
--- src/operations.rt:80:1
 returns-3 : tie.Need-returns-3
-returns-3 c = ?
+returns-3 c =
+    let a = c .before .before .before .before .before .before .before .before .args in
+    let room = row-room (now (a .words)) (now (a .places)) (a .count) (sym (c .before .before .before .before .both-hold .ensures) ∙ not-false _ (c .before .before .before .if2 .left)) in
+    let told = row-added (a .m) (a .k) (a .point) (a .value) (a .index) (c .before .before .position .result) (rowsOf (now (a .words)) (now (a .places)) (a .count)) (c .before .before .before .before .before .if1 .left) (c .before .before .position .ensures) in
+    rw (c .before .word-of .ensures)
+    (feeds-row (now (a .words)) (now (a .places)) (a .count) (c .before .before .before .before .before .before .before .before .pre) (c .placed .result) _ (a .point) (a .value) (c .before .before .position .result) _ (omega arith) room (c .placed .ensures .0) (c .placed .ensures .1) told)
 
 pub add-row-spec : {M : Type 1} → statement M
 add-row-spec =

@@ -1,65 +1,60 @@
+-- `plain_rows::operations::put_row` meets its contract, by whether the point has a row.
+-- Assumes nothing.
+use mathlib.Core.Path.{_∙_, sym, ap}
 use borrow.Author.Needs.{needs}
+use denote.Ref.{now}
+use Rattle.plain_list.specs.PlainList.{putEntry, putRow}
+use Rattle.plain_rows.specs.Rows.{entryRead}
+use Rattle.plain_rows.proofs.FedLaws.{feeds-value}
 use Rattle.plain_rows.proofs.operations.put_row.Statement.{statement}
 use Rattle.plain_rows.proofs.operations.put_row.Tie as tie
-use Rattle.plain_rows.proofs.operations.put_row.Reads as reads
-use Rattle.plain_rows.proofs.operations.put_row.Lts as lts
-use Rattle.plain_rows.proofs.indices.first_free.Reads as first-free-reads
-use Rattle.plain_rows.proofs.operations.add_row.Reads as add-row-reads
-use Rattle.plain_rows.proofs.operations.placed.Reads as placed-reads
-use Rattle.plain_rows.proofs.rows.entry_of.Reads as entry-of-reads
-use Rattle.plain_rows.proofs.rows.with_value.Reads as with-value-reads
 
--- src/operations.rt:67:11
 entry-of-requires : tie.Need-entry-of-requires
 entry-of-requires c κs = search needs
 
--- src/operations.rt:69:36
 enum-told : tie.Need-enum-told
 enum-told c = search needs
 
--- src/operations.rt:69:17
 first-free-requires : tie.Need-first-free-requires
 first-free-requires c κs = search needs
 
--- src/operations.rt:70:13
 add-row-requires : tie.Need-add-row-requires
 add-row-requires c κs = search needs
 
--- src/operations.rt:72:36
 enum-known-place : tie.Need-enum-known-place
 enum-known-place c = search needs
 
--- src/operations.rt:73:13
 with-value-requires : tie.Need-with-value-requires
 with-value-requires c κs = search needs
 
--- src/operations.rt:74:13
 placed-requires : tie.Need-placed-requires
 placed-requires c κs = search needs
 
--- src/operations.rt:55:1
 same-length : tie.Need-same-length
 same-length c = search needs
 
--- src/operations.rt:55:1
 same-length-2 : tie.Need-same-length-2
 same-length-2 c = search needs
 
--- src/operations.rt:55:1
 returns : tie.Need-returns
-returns c = ?
+unfolding putRow putEntry
+returns c =
+    let a = c .before .before .before .before .before .before .before .before .before .before .before .before .before .before .before .before .args in
+    let none = sym (c .before .before .before .before .before .before .before .before .before .before .before .entry-of .ensures) ∙ ap entryRead (c .before .before .before .before .before .before .before .before .before .enum-told .given .1) in
+    rw (none, ← c .before .before .before .before .before .before .before .first-free .ensures (now (a .words))) (c .before .before .before .before .add-row .ensures)
 
--- src/operations.rt:55:1
 same-length-3 : tie.Need-same-length-3
 same-length-3 c = search needs
 
--- src/operations.rt:55:1
 same-length-4 : tie.Need-same-length-4
 same-length-4 c = search needs
 
--- src/operations.rt:55:1
 returns-2 : tie.Need-returns-2
-returns-2 c = ?
+unfolding putRow putEntry
+returns-2 c =
+    let a = c .before .before .before .before .before .before .before .before .before .before .before .before .before .args in
+    let some = sym (c .before .before .before .before .before .before .before .before .entry-of .ensures) ∙ ap entryRead (c .before .before .before .before .before .before .place .given .1) in
+    feeds-value (now (a .words)) (now (a .places)) (a .count) (c .before .before .before .before .before .before .before .before .before .before .before .before .before .pre) (c .placed .result) _ (c .before .before .before .with-value .last .0) (a .point) (a .value) _ (c .before .before .before .with-value .ensures) (c .placed .ensures .0) (c .placed .ensures .1) (rw some)
 
 pub put-row-spec : {M : Type 1} → statement M
 put-row-spec =

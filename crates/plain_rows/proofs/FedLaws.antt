@@ -48,15 +48,20 @@ module _ (words places : List ℕ) (count : ℕ) where
         in-places = omega (arith, ltb-true count (length places) (both-right w p e));
       }
 
+module _ (words places : List ℕ) (count : ℕ) (room : Room words places count) where
+  pub in-room : (told : Told) → Room words places (length (told .rows)) → inSlices words places count told ≡ told
+  unfolding inSlices ifRoom
+  in-room told room′ =
+      rw
+      (both-true (hasRoom words places count) (hasRoom words places (length (told .rows))) (room-true words places count room) (room-true words places (length (told .rows)) room′))
+
 module _ (words places : List ℕ) (count : ℕ) (room : Room words places count) (fed : Fed) (told : Told) where
   -- the slices show what the list was told, so there is room for it
   pub feeds : (words′ places′ : List ℕ) (count′ : ℕ) (answer : Answer) → Room words places count′ → fed .count ≡ count′ → paperCall (fed .answer) ≡ answer → told ≡ tells (rowsOf words′ places′ count′) answer → SameFrom count′ words words′ → SameFrom count′ places places′ → Feeds words places words′ places′ fed (inSlices words places count told)
-  unfolding inSlices ifRoom
   feeds words′ places′ count′ answer room′ n a t w p =
       let size : length (told .rows) ≡ count′ = ap (λ (x : Told). length (x .rows)) t ∙ rows-length words′ places′ count′ in
-      let fits = both-true (hasRoom words places count) (hasRoom words places (length (told .rows))) (room-true words places count room) (ap (hasRoom words places) size ∙ room-true words places count′ room′) in
       record {
-        shown = rw (n, a, fits) (sym t);
+        shown = rw (n, a, in-room words places count room told (rw size room′)) (sym t);
         words-stay = rw n w;
         places-stay = rw n p;
       }

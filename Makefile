@@ -3,7 +3,8 @@
 # bench: the frame library, the readers and the bench program, each beside an independent Rust program,
 #        in one run.
 # fuzz: the frame library and the programs' inputs, FUZZ_SECONDS (60) each; not part of the gate.
-.PHONY: run test bench fuzz
+# check-times: proves every crate from nothing, one at a time, and writes docs/CHECKTIMES.md.
+.PHONY: run test bench fuzz check-times
 
 run:
 	rt check bench
@@ -21,3 +22,6 @@ fuzz:
 	rt staticlib frame
 	rt check bench
 	host/fuzz
+
+check-times:
+	host/check_times

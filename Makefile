@@ -2,7 +2,9 @@
 # test: the gate, all tests and proofs from nothing.
 # bench: the frame library, the readers and the bench program, each beside an independent Rust program,
 #        in one run.
-.PHONY: run test bench
+# fuzz: the frame library and the programs' inputs, FUZZ_SECONDS (60) each; not part of the gate.
+# check-times: proves every crate from nothing, one at a time, and writes docs/CHECKTIMES.md.
+.PHONY: run test bench fuzz check-times
 
 run:
 	rt check bench
@@ -15,3 +17,11 @@ bench:
 	rt staticlib frame
 	rt check reader_speed bench
 	host/bench
+
+fuzz:
+	rt staticlib frame
+	rt check bench
+	host/fuzz
+
+check-times:
+	host/check_times

@@ -12,6 +12,7 @@ mod bench_protocol;
 mod bench_workload;
 mod child_program;
 mod direct_table;
+mod point_table;
 mod random;
 
 // The plain list's changes are no commands of the bench.
@@ -25,6 +26,7 @@ mod reference_table;
 
 use bench_cases::{feed, Case};
 use bench_histories::History;
+use direct_table::DirectTable;
 use plain_list::PlainList;
 use random::Random;
 use std::path::Path;
@@ -86,7 +88,7 @@ impl Comparison {
 /// What the reference prints.
 fn reference(input: &[u8]) -> Vec<u8> {
     let mut output = Vec::new();
-    bench_protocol::run(input, &mut output).expect("a vector takes every byte");
+    bench_protocol::run::<DirectTable>(input, &mut output).expect("a vector takes every byte");
     output
 }
 

@@ -1,34 +1,49 @@
-//! The bench of document 01 over the direct table: commands in, their answers out.
+//! The bench of document 01 over any table of points: commands in, their answers out.
 
 use crate::bench_line::{read_command, read_sizes, Command};
-use crate::direct_table::Table;
+use crate::point_table::PointTable;
 use std::io::{BufRead, Result, Write};
 
-/// Runs the input to its end.
-pub fn run(mut input: impl BufRead, mut output: impl Write) -> Result<()> {
+/// Runs the input to its end, and gives the table as it is then; none if line 1 made none.
+pub fn run<T: PointTable>(mut input: impl BufRead, mut output: impl Write) -> Result<Option<T>> {
     let mut line = Vec::new();
-    let mut printed = Vec::new();
     // A missing first line is taken as an empty one, which cannot be read either.
     next_line(&mut input, &mut line)?;
-    let Some(mut table) = read_sizes(&line).and_then(|(m, k)| Table::new(m, k)) else {
+    let sizes = read_sizes(&line);
+    let made = sizes.and_then(|(m, k)| Some((m, k, T::new(m, k)?)));
+    let Some((m, k, mut table)) = made else {
         output.write_all(b"panel ! 1\n")?;
-        return output.flush();
+        output.flush()?;
+        return Ok(None);
     };
-    writeln!(output, "panel {} {}", table.m, table.k)?;
+    writeln!(output, "panel {m} {k}")?;
+    run_commands(&mut table, input, &mut output)?;
+    writeln!(output, "reach {} points {}", table.reach(), table.points())?;
+    output.flush()?;
+    Ok(Some(table))
+}
+
+/// Every line behind the first.
+fn run_commands(
+    table: &mut impl PointTable,
+    mut input: impl BufRead,
+    output: &mut impl Write,
+) -> Result<()> {
+    let mut line = Vec::new();
+    let mut printed = Vec::new();
     let mut number: u64 = 1;
     while next_line(&mut input, &mut line)? {
         number += 1;
         match read_command(&line) {
             Some(command) => {
                 printed.clear();
-                answer(&mut table, command, &mut printed);
+                answer(table, command, &mut printed);
                 output.write_all(&printed)?;
             }
             None => writeln!(output, "? {number}")?,
         }
     }
-    writeln!(output, "reach {} points {}", table.reach, table.points())?;
-    output.flush()
+    Ok(())
 }
 
 /// The next line without its end, in place of `line`; false at the end of the input.
@@ -42,7 +57,7 @@ fn next_line(input: &mut impl BufRead, line: &mut Vec<u8>) -> Result<bool> {
 }
 
 /// Carries the command out and adds its line.
-fn answer(table: &mut Table, command: Command, printed: &mut Vec<u8>) {
+fn answer(table: &mut impl PointTable, command: Command, printed: &mut Vec<u8>) {
     let (letter, answer) = match command {
         Command::Put { point, value } => {
             let place = table.put(point, value);

@@ -3,7 +3,10 @@
 use crate::bench_commands::{any_command, Mix};
 use crate::random::Random;
 
-/// The points that the input's commands name, more than the 4096 slots hold.
+pub const M: u32 = 4096;
+pub const K: u32 = 8;
+
+/// The points that the input's commands name, more than the slots hold.
 const POINTS: usize = 4500;
 
 /// One line in this many cannot be read.
@@ -40,5 +43,5 @@ pub fn input(lines: usize) -> String {
         }
     };
     let commands: String = (1..lines).map(|_| line()).collect();
-    format!("4096 8\n{commands}")
+    format!("{M} {K}\n{commands}")
 }

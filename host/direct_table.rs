@@ -1,38 +1,21 @@
 //! The point table as ordinary code, written from document 01 and not from the library: whole
 //! operations that alter it in place, with no steps and nobody's work underway.
 
-use crate::reference_record::{is_point, FUNCTIONS, SLOTS};
+use crate::point_table::{are_sizes, judge, Place, PointTable, Refusal};
 use crate::reference_table::{point_of, position, value_of, word_of};
 
-pub struct Table {
-    pub m: u32,
-    pub k: u32,
-    pub reach: u32,
+pub struct DirectTable {
+    m: u32,
+    k: u32,
+    reach: u32,
     /// At i - 1, how many stored points use index i.
     counts: [u32; 64],
     pub slots: Vec<u64>,
 }
 
-/// Where a point sits: the slot, and the index of the function that leads there.
-#[derive(Clone, Copy, Debug, PartialEq, Eq)]
-pub struct Place {
-    pub slot: u32,
-    pub index: u32,
-}
-
-/// The refusals that whole operations can give, with their numbers in the refusal table.
-#[derive(Clone, Copy, Debug, PartialEq, Eq)]
-pub enum Refusal {
-    Address = 2,
-    NoPerch = 6,
-    Unknown = 7,
-}
-
-impl Table {
-    /// An empty table, unless a size is out of range.
-    pub fn new(m: u32, k: u32) -> Option<Self> {
-        let fits = SLOTS.contains(&m) && FUNCTIONS.contains(&k);
-        fits.then(|| Table {
+impl PointTable for DirectTable {
+    fn new(m: u32, k: u32) -> Option<Self> {
+        are_sizes(m, k).then(|| DirectTable {
             m,
             k,
             reach: 0,
@@ -41,7 +24,7 @@ impl Table {
         })
     }
 
-    pub fn put(&mut self, point: u32, value: u32) -> Result<Place, Refusal> {
+    fn put(&mut self, point: u32, value: u32) -> Result<Place, Refusal> {
         judge(point)?;
         // The whole reach is searched first: behind a hole the point may be stored already.
         let place = match self.find(point) {
@@ -52,14 +35,13 @@ impl Table {
         Ok(place)
     }
 
-    pub fn lookup(&self, point: u32) -> Result<u32, Refusal> {
+    fn lookup(&mut self, point: u32) -> Result<u32, Refusal> {
         judge(point)?;
         let place = self.find(point).ok_or(Refusal::Unknown)?;
         Ok(value_of(self.word(place)))
     }
 
-    /// Gives the reach after.
-    pub fn remove(&mut self, point: u32) -> Result<u32, Refusal> {
+    fn remove(&mut self, point: u32) -> Result<u32, Refusal> {
         judge(point)?;
         let place = self.find(point).ok_or(Refusal::Unknown)?;
         self.slots[place.slot as usize] = 0;
@@ -70,11 +52,16 @@ impl Table {
         Ok(self.reach)
     }
 
-    /// How many points are stored.
-    pub fn points(&self) -> u32 {
-        self.counts.iter().sum()
+    fn reach(&self) -> u32 {
+        self.reach
     }
 
+    fn points(&self) -> u32 {
+        self.counts.iter().sum()
+    }
+}
+
+impl DirectTable {
     fn places(&self, point: u32, last: u32) -> impl Iterator<Item = Place> {
         let m = self.m;
         (1..=last).map(move |index| Place {
@@ -101,13 +88,5 @@ impl Table {
         self.reach = self.reach.max(place.index);
         self.counts[place.index as usize - 1] += 1;
         Ok(place)
-    }
-}
-
-fn judge(point: u32) -> Result<(), Refusal> {
-    if is_point(point) {
-        Ok(())
-    } else {
-        Err(Refusal::Address)
     }
 }

@@ -1,21 +1,54 @@
-//! A second bench program, to compare the proved one with: the same input, the same output.
+//! Bench programs to compare the proved one with: the same input, the same output. The argument
+//! chooses the table: `direct` (ordinary code), `steps` (the step machine), or `map` (the standard
+//! library's hash table, whose output has 0 for slot, index and reach).
 
 mod bench_line;
 mod bench_protocol;
 mod direct_table;
+mod map_table;
+mod point_table;
 
-// Of these, only the hash functions, the words and the ranges are used.
+// Walks, changes, commands and disabled points are no part of the bench, and nobody asks here for the
+// steps made.
+#[allow(dead_code)]
+mod reference_operations;
 #[allow(dead_code)]
 mod reference_record;
 #[allow(dead_code)]
 mod reference_table;
+#[allow(dead_code)]
+mod reference_writer;
+#[allow(dead_code)]
+mod step_table;
 
-use std::io::{stdin, stdout, BufReader, BufWriter, Result};
+use direct_table::DirectTable;
+use map_table::MapTable;
+use point_table::PointTable;
+use std::io::{stdin, stdout, BufReader, BufWriter, Error, Result};
+use std::process::ExitCode;
+use step_table::StepTable;
 
 const BUFFER: usize = 1 << 16;
 
-fn main() -> Result<()> {
+fn run<T: PointTable>() -> Result<()> {
     let input = BufReader::with_capacity(BUFFER, stdin().lock());
     let output = BufWriter::with_capacity(BUFFER, stdout().lock());
-    bench_protocol::run(input, output)
+    bench_protocol::run::<T>(input, output).map(|_| ())
+}
+
+fn main() -> ExitCode {
+    let table = std::env::args().nth(1);
+    let done = match table.as_deref() {
+        Some("direct") => run::<DirectTable>(),
+        Some("steps") => run::<StepTable>(),
+        Some("map") => run::<MapTable>(),
+        _ => Err(Error::other("one argument: direct, steps or map")),
+    };
+    match done {
+        Ok(()) => ExitCode::SUCCESS,
+        Err(reason) => {
+            eprintln!("reference_bench: {reason}");
+            ExitCode::FAILURE
+        }
+    }
 }

@@ -4,19 +4,21 @@ use crate::reference_record::Record;
 use crate::reference_table::{start_lookup, step_reader, Refusal, Step};
 use crate::reference_writer::{start_change, start_put, start_removal, step_writer, WriterStep};
 
+/// What the last step answered, and how many steps there were.
+#[derive(Clone, Copy, Debug, PartialEq, Eq)]
+pub struct Ended<T> {
+    pub answer: T,
+    pub steps: u32,
+}
+
 pub fn lookup(
     record: &mut Record,
     slots: &[u64],
     reader: u32,
     point: u32,
-) -> Result<Step, Refusal> {
+) -> Result<Ended<Step>, Refusal> {
     start_lookup(record, slots, reader, point)?;
-    loop {
-        let answer = step_reader(record, slots, reader)?;
-        if answer != Step::Underway {
-            return Ok(answer);
-        }
-    }
+    until_ended(Step::Underway, || step_reader(record, slots, reader))
 }
 
 pub fn put(
@@ -24,7 +26,7 @@ pub fn put(
     slots: &mut [u64],
     point: u32,
     value: u32,
-) -> Result<WriterStep, Refusal> {
+) -> Result<Ended<WriterStep>, Refusal> {
     start_put(record, slots, point, value)?;
     finish(record, slots)
 }
@@ -35,22 +37,35 @@ pub fn change(
     point: u32,
     keep: u32,
     flip: u32,
-) -> Result<WriterStep, Refusal> {
+) -> Result<Ended<WriterStep>, Refusal> {
     start_change(record, slots, point, keep, flip)?;
     finish(record, slots)
 }
 
-pub fn removal(record: &mut Record, slots: &mut [u64], point: u32) -> Result<WriterStep, Refusal> {
+pub fn removal(
+    record: &mut Record,
+    slots: &mut [u64],
+    point: u32,
+) -> Result<Ended<WriterStep>, Refusal> {
     start_removal(record, slots, point)?;
     finish(record, slots)
 }
 
 /// The writer's steps to the end of the work that it has.
-pub fn finish(record: &mut Record, slots: &mut [u64]) -> Result<WriterStep, Refusal> {
+pub fn finish(record: &mut Record, slots: &mut [u64]) -> Result<Ended<WriterStep>, Refusal> {
+    until_ended(WriterStep::Underway, || step_writer(record, slots))
+}
+
+fn until_ended<T: PartialEq>(
+    underway: T,
+    mut step: impl FnMut() -> Result<T, Refusal>,
+) -> Result<Ended<T>, Refusal> {
+    let mut steps = 0;
     loop {
-        let answer = step_writer(record, slots)?;
-        if answer != WriterStep::Underway {
-            return Ok(answer);
+        let answer = step()?;
+        steps += 1;
+        if answer != underway {
+            return Ok(Ended { answer, steps });
         }
     }
 }

@@ -45,8 +45,8 @@ impl Panel {
     }
 
     fn finish(&mut self) -> WriterStep {
-        let answer = finish(&mut self.record, &mut self.slots);
-        answer.expect("the writer has work")
+        let ended = finish(&mut self.record, &mut self.slots);
+        ended.expect("the writer has work").answer
     }
 }
 

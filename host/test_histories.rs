@@ -3,13 +3,13 @@
 
 use crate::bench_histories::History;
 use crate::bench_line::Command;
-use crate::direct_table::{self, Table};
+use crate::direct_table::DirectTable;
 use crate::plain_list::PlainList;
+use crate::point_table::PointTable;
 use crate::random::Random;
-use crate::reference_operations::{lookup, put, removal};
-use crate::reference_record::{is_point, Record};
-use crate::reference_table::{fresh, Step};
-use crate::{answer_of, Answer};
+use crate::reference_record::is_point;
+use crate::step_table::StepTable;
+use crate::Answer;
 
 const HISTORIES: u32 = 2000;
 
@@ -22,41 +22,23 @@ pub fn run() -> usize {
 
 fn compare(history: &History) -> usize {
     let &History { m, k, .. } = history;
-    let mut slots = vec![0; m as usize];
-    let (made, mut record) = fresh(&mut slots, m, k);
-    assert_eq!(made, Ok(()));
-    let mut table = Table::new(m, k).expect("the sizes are in range");
+    let mut by_steps = StepTable::new(m, k).expect("the sizes are in range");
+    let mut direct = DirectTable::new(m, k).expect("the sizes are in range");
     let mut list = PlainList::new(m, k);
     for &command in &history.commands {
         let expected = plainly(&mut list, command);
-        assert_eq!(by_steps(&mut record, &mut slots, command), expected);
-        assert_eq!(directly(&mut table, command), expected);
-        assert_eq!(slots, list.slots());
-        assert_eq!(table.slots, list.slots());
-        assert_eq!([record.reach, table.reach], [list.largest_index(); 2]);
-        assert_eq!(record.counts.iter().sum::<u32>(), table.points());
+        assert_eq!(carry_out(&mut by_steps, command), expected);
+        assert_eq!(carry_out(&mut direct, command), expected);
+        assert_eq!(by_steps.slots, list.slots());
+        assert_eq!(direct.slots, list.slots());
+        assert_eq!(by_steps.reach(), list.largest_index());
+        assert_eq!(direct.reach(), list.largest_index());
+        assert_eq!(by_steps.points(), direct.points());
     }
     history.commands.len()
 }
 
-fn by_steps(record: &mut Record, slots: &mut [u64], command: Command) -> Answer {
-    match command {
-        Command::Put { point, value } => ended(answer_of(put(record, slots, point, value))),
-        Command::Removal { point } => ended(answer_of(removal(record, slots, point))),
-        Command::Lookup { point } => match lookup(record, slots, 0, point) {
-            Ok(Step::Found(value)) => Ok((value, 0)),
-            Ok(Step::Unknown) => Err(7),
-            Ok(step) => panic!("a lookup ended with {step:?}"),
-            Err(refusal) => Err(refusal as u32),
-        },
-    }
-}
-
-fn ended(answer: Option<Answer>) -> Answer {
-    answer.expect("a whole operation is not underway")
-}
-
-fn directly(table: &mut Table, command: Command) -> Answer {
+fn carry_out(table: &mut impl PointTable, command: Command) -> Answer {
     let answer = match command {
         Command::Put { point, value } => {
             let place = table.put(point, value);
@@ -65,7 +47,7 @@ fn directly(table: &mut Table, command: Command) -> Answer {
         Command::Lookup { point } => table.lookup(point).map(|value| (value, 0)),
         Command::Removal { point } => table.remove(point).map(|reach| (reach, 0)),
     };
-    answer.map_err(|refusal: direct_table::Refusal| refusal as u32)
+    answer.map_err(|refusal| refusal as u32)
 }
 
 fn plainly(list: &mut PlainList, command: Command) -> Answer {

@@ -1,7 +1,7 @@
 //! The writer's steps one by one, with the record after each. The points 1, 9 and 17 have the
 //! positions 0 4 2 6, 0 2 7 7 and 0 0 3 7 at m = 8.
 
-use crate::reference_operations::{change, finish, lookup, put, removal};
+use crate::reference_operations::{change, finish, lookup, put, removal, Ended};
 use crate::reference_record::{
     Alteration, ChangeStage, Place, PutStage, Record, RemovalStage, Search, Station, Writer,
 };
@@ -26,9 +26,11 @@ impl Panel {
     /// Points 1, 9 and 17 on their positions 1, 2 and 3, with the values 5, 6 and 7.
     fn filled() -> Self {
         let mut panel = Panel::new(4);
-        for (point, value, slot, index) in [(1, 5, 0, 1), (9, 6, 2, 2), (17, 7, 3, 3)] {
+        for (point, value, slot, index, steps) in
+            [(1, 5, 0, 1, 4), (9, 6, 2, 2, 6), (17, 7, 3, 3, 8)]
+        {
             let answer = put(&mut panel.record, &mut panel.slots, point, value);
-            assert_eq!(answer, Ok(WriterStep::Put { slot, index }));
+            assert_eq!(answer, ended(WriterStep::Put { slot, index }, steps));
         }
         panel
     }
@@ -51,6 +53,11 @@ impl Panel {
         assert_eq!(self.record.writer, Writer::Idle);
         assert_eq!(self.step(), Err(Refusal::Idle));
     }
+}
+
+/// What an operation that was started gives.
+fn ended<T>(answer: T, steps: u32) -> Result<Ended<T>, Refusal> {
+    Ok(Ended { answer, steps })
 }
 
 pub fn run() {
@@ -183,7 +190,7 @@ fn given_change() {
 
     let mut empty = Panel::new(4);
     let answer = change(&mut empty.record, &mut empty.slots, 1, 0, 0);
-    assert_eq!(answer, Ok(WriterStep::Unknown));
+    assert_eq!(answer, ended(WriterStep::Unknown, 1));
 }
 
 /// A command is kept in the step that ends it, and not before.
@@ -233,7 +240,7 @@ fn command(point: u32, before: u32, action: u32, kept: Option<u32>, answer: Writ
 fn removals() {
     let mut panel = Panel::filled();
     let answer = removal(&mut panel.record, &mut panel.slots, 9);
-    assert_eq!(answer, Ok(WriterStep::Removed(3)));
+    assert_eq!(answer, ended(WriterStep::Removed(3), 4));
     let at = |stage| Writer::Removing { point: 17, stage };
     assert_eq!(start_removal(&mut panel.record, &panel.slots, 17), Ok(()));
     panel.step_to(at(RemovalStage::Searching(probing(3, 1))));
@@ -248,10 +255,10 @@ fn removals() {
     );
     panel.end_with(WriterStep::Removed(1));
     let answer = removal(&mut panel.record, &mut panel.slots, 1);
-    assert_eq!(answer, Ok(WriterStep::Removed(0)));
+    assert_eq!(answer, ended(WriterStep::Removed(0), 4));
     assert_eq!((panel.slots, panel.record.reach), ([0; 8], 0));
     let answer = removal(&mut panel.record, &mut panel.slots, 1);
-    assert_eq!(answer, Ok(WriterStep::Unknown));
+    assert_eq!(answer, ended(WriterStep::Unknown, 1));
 }
 
 /// Records that no history leads to: a count of 0 stays, and the largest index counted is looked
@@ -308,7 +315,7 @@ fn refusals() {
     assert_eq!(start_change(record, slots, 1, 0, 0), Err(Refusal::Engaged));
     assert_eq!(start_removal(record, slots, 1), Err(Refusal::Engaged));
     assert_eq!(*record, engaged);
-    assert_eq!(finish(record, slots), Ok(WriterStep::Removed(3)));
+    assert_eq!(finish(record, slots), ended(WriterStep::Removed(3), 3));
     let mut idle = Record { k: 65, ..*record };
     assert_eq!(step_writer(&mut idle, slots), Err(Refusal::Misfit));
     assert_eq!(step_writer(record, slots), Err(Refusal::Idle));
@@ -318,15 +325,15 @@ fn refusals() {
 fn marked_values() {
     let mut panel = Panel::filled();
     let found = lookup(&mut panel.record, &panel.slots, 15, 17);
-    assert_eq!(found, Ok(Step::Found(7)));
+    assert_eq!(found, ended(Step::Found(7), 4));
     let answer = put(&mut panel.record, &mut panel.slots, 2_147_483_646, 1);
     assert!(answer.is_ok());
 
     let mut slots = [0];
     let (_, mut record) = fresh(&mut slots, 1, 64);
     let answer = put(&mut record, &mut slots, 1, 5);
-    assert_eq!(answer, Ok(WriterStep::Put { slot: 0, index: 1 }));
+    assert_eq!(answer, ended(WriterStep::Put { slot: 0, index: 1 }, 4));
     let answer = put(&mut record, &mut slots, 2, 5);
-    assert_eq!(answer, Ok(WriterStep::NoPerch));
+    assert_eq!(answer, ended(WriterStep::NoPerch, 66));
     assert_eq!(slots, [word_of(1, 5)]);
 }

@@ -1,0 +1,45 @@
+// Which of a point's positions 1 to k: a row's index, the first free one, the largest of all rows.
+use crate::rows::is_place;
+use hash::position;
+use slot_words::word::point_of;
+
+// The lowest of 1 to k whose position is the place, or 0.
+pub(crate) fn index_of(m: u32, k: u32, point: u32, place: u32) -> u32 {
+    let mut passed = 0;
+    while passed < k {
+        let index = passed + 1;
+        if position(m, point, index) == place {
+            return index;
+        }
+        passed = index;
+    }
+    0
+}
+
+// The lowest of 1 to k whose position is no row's place, or 0.
+pub(crate) fn first_free(places: &[u32], count: usize, m: u32, k: u32, point: u32) -> u32 {
+    let mut passed = 0;
+    while passed < k {
+        let index = passed + 1;
+        if !is_place(places, count, position(m, point, index)) {
+            return index;
+        }
+        passed = index;
+    }
+    0
+}
+
+// The largest index of a row, or 0.
+pub(crate) fn largest_index(words: &[u64], places: &[u32], count: usize, m: u32, k: u32) -> u32 {
+    let mut largest = 0;
+    let mut i = 0;
+    while i < count {
+        largest = larger(largest, index_of(m, k, point_of(words[i]), places[i]));
+        i += 1;
+    }
+    largest
+}
+
+fn larger(a: u32, b: u32) -> u32 {
+    if a < b { b } else { a }
+}

@@ -1,0 +1,71 @@
+// Document 01's plain list as code, kept beside the slots for whoever wants to see what the table must
+// show. Its rows lie in two lent slices: a row's point and value in a word of `words`, its place in the
+// same index of `places`. A new row goes behind the others.
+mod indices;
+mod operations;
+mod rows;
+
+use answers::CallAnswer;
+use operations::change_row;
+use operations::misfit;
+use operations::put_row;
+use operations::remove_row;
+use refusal::Refusal;
+use rows::has_room;
+
+// An operation with its arguments, as the list is fed.
+pub enum Operation {
+    Nothing,
+    Put { point: u32, value: u32 },
+    Change { point: u32, keep: u32, flip: u32 },
+    Removal { point: u32 },
+}
+
+// What feeding leaves besides the slices: how many rows there are, and what the list answers.
+pub struct Fed {
+    pub count: usize,
+    pub answer: CallAnswer,
+}
+
+// Feeds the list of `count` rows an operation, in a table of m slots and k functions. Where a slice is
+// too short for the rows before or after, nothing is altered and the answer is refusal 1.
+pub fn feed(
+    words: &mut [u64],
+    places: &mut [u32],
+    count: usize,
+    m: u32,
+    k: u32,
+    operation: Operation,
+) -> Fed {
+    if has_room(words.len(), places.len(), count) {
+        return fed(words, places, count, m, k, operation);
+    }
+    misfit(count)
+}
+
+// The same where the slices hold the rows.
+fn fed(
+    words: &mut [u64],
+    places: &mut [u32],
+    count: usize,
+    m: u32,
+    k: u32,
+    operation: Operation,
+) -> Fed {
+    match operation {
+        Operation::Nothing => Fed {
+            count: count,
+            answer: CallAnswer::Refused(Refusal::Idle),
+        },
+        Operation::Put { point, value } => put_row(words, places, count, m, k, point, value),
+        Operation::Change { point, keep, flip } => change_row(
+            words,
+            places,
+            count,
+            point,
+            keep,
+            flip,
+        ),
+        Operation::Removal { point } => remove_row(words, places, count, m, k, point),
+    }
+}

@@ -1,0 +1,132 @@
+// What each operation makes of the rows, and what the list answers. The slices hold the rows.
+use crate::Fed;
+use crate::indices::first_free;
+use crate::indices::index_of;
+use crate::indices::largest_index;
+use crate::rows::Entry;
+use crate::rows::entry_of;
+use crate::rows::has_room;
+use crate::rows::with_value;
+use crate::rows::without;
+use answers::CallAnswer;
+use answers::Spot;
+use hash::position;
+use refusal::Refusal;
+use slot_words::word::word_of;
+
+// A slice is too short: as many rows as before, and refusal 1.
+pub(crate) fn misfit(count: usize) -> Fed {
+    Fed {
+        count: count,
+        answer: CallAnswer::Refused(Refusal::Misfit),
+    }
+}
+
+// No row of the point: as many rows as before, and refusal 7.
+fn unknown(count: usize) -> Fed {
+    Fed {
+        count: count,
+        answer: CallAnswer::Unknown,
+    }
+}
+
+// The point has a row at the place: so many rows, and the place with its index.
+fn placed(count: usize, m: u32, k: u32, point: u32, place: u32) -> Fed {
+    Fed {
+        count: count,
+        answer: CallAnswer::Placed(Spot {
+            slot: place,
+            index: index_of(m, k, point, place),
+        }),
+    }
+}
+
+pub(crate) fn put_row(
+    words: &mut [u64],
+    places: &mut [u32],
+    count: usize,
+    m: u32,
+    k: u32,
+    point: u32,
+    value: u32,
+) -> Fed {
+    match entry_of(words, places, count, point) {
+        Entry::Absent => {
+            let index = first_free(places, count, m, k, point);
+            add_row(words, places, count, m, k, point, value, index)
+        }
+        Entry::Present { value: _, place } => {
+            with_value(words, count, point, value);
+            placed(count, m, k, point, place)
+        }
+    }
+}
+
+// A row behind the others, at the point's position of that index; 0 means that none is free.
+fn add_row(
+    words: &mut [u64],
+    places: &mut [u32],
+    count: usize,
+    m: u32,
+    k: u32,
+    point: u32,
+    value: u32,
+    index: u32,
+) -> Fed {
+    if index == 0 {
+        return Fed {
+            count: count,
+            answer: CallAnswer::NoPerch,
+        };
+    }
+    if count < words.len() {
+        if count < places.len() {
+            let place = position(m, point, index);
+            words[count] = word_of(point, value);
+            places[count] = place;
+            return placed(count + 1, m, k, point, place);
+        }
+    }
+    misfit(count)
+}
+
+pub(crate) fn change_row(
+    words: &mut [u64],
+    places: &mut [u32],
+    count: usize,
+    point: u32,
+    keep: u32,
+    flip: u32,
+) -> Fed {
+    match entry_of(words, places, count, point) {
+        Entry::Absent => unknown(count),
+        Entry::Present { value, place: _ } => {
+            let new = (value & keep) ^ flip;
+            with_value(words, count, point, new);
+            Fed {
+                count: count,
+                answer: CallAnswer::Changed(new),
+            }
+        }
+    }
+}
+
+pub(crate) fn remove_row(
+    words: &mut [u64],
+    places: &mut [u32],
+    count: usize,
+    m: u32,
+    k: u32,
+    point: u32,
+) -> Fed {
+    match entry_of(words, places, count, point) {
+        Entry::Absent => unknown(count),
+        Entry::Present { value: _, place: _ } => {
+            let left = without(words, places, count, point);
+            Fed {
+                count: left,
+                answer: CallAnswer::Removed(largest_index(words, places, left, m, k)),
+            }
+        }
+    }
+}

@@ -1,15 +1,16 @@
 //! Whole operations: the reference by its steps, the direct table and the plain list give the same
 //! answers and leave the same slots and reach.
 
+use crate::answer_of;
 use crate::bench_histories::History;
 use crate::bench_line::Command;
 use crate::direct_table::{self, Table};
+use crate::plain_feeding::Answer;
 use crate::plain_list::PlainList;
 use crate::random::Random;
 use crate::reference_operations::{lookup, put, removal};
 use crate::reference_record::{is_point, Record};
 use crate::reference_table::{fresh, Step};
-use crate::{answer_of, Answer};
 
 const HISTORIES: u32 = 2000;
 

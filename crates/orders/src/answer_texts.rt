@@ -1,5 +1,6 @@
 // Answers in document 01's words.
 use crate::output::byte;
+use crate::output::decimal;
 use crate::output::number;
 use crate::output::text;
 use answers::CallAnswer;
@@ -69,9 +70,13 @@ pub(crate) fn refused_text(filled: usize, out: &mut [u8], refusal: Refusal) -> u
 
 // A refusal's number and word.
 fn refusal_text(filled: usize, out: &mut [u8], refusal: Refusal) -> usize {
-    let digits = crate::output::decimal(filled, out, refusal.number() as u64);
-    let spelt = refusal.word();
-    let letters = spelt.letters;
-    let length = spelt.length;
-    text(byte(digits, out, b' '), out, &letters[..length])
+    let numbered = decimal(filled, out, refusal.number() as u64);
+    refusal_word(byte(numbered, out, b' '), out, refusal)
+}
+
+fn refusal_word(filled: usize, out: &mut [u8], refusal: Refusal) -> usize {
+    let word = refusal.word();
+    let letters = word.letters;
+    let length = word.length;
+    text(filled, out, &letters[..length])
 }

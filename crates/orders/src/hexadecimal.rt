@@ -3,6 +3,15 @@ use crate::faults::Fault;
 use crate::numbers::digit_of;
 use crate::words::is_blank;
 
+// A digit more than 32 bytes have.
+const TOO_MANY: usize = 65;
+
+// The digits so far.
+struct FrameDigits {
+    count: usize,
+    are_hexadecimal: bool,
+}
+
 // The number of bytes, if there is no fault.
 pub(crate) struct FrameRead {
     pub count: usize,
@@ -10,53 +19,65 @@ pub(crate) struct FrameRead {
 }
 
 // The digits from there to the end of the line. Blanks between them mean nothing.
-pub(crate) fn frame_at(line: &[u8], from: usize, frame: &mut [u8; 32]) -> FrameRead {
-    let mut digits: usize = 0;
+pub(crate) fn frame_at(line: &[u8], from: usize, frame: &mut [u8]) -> FrameRead {
+    let mut digits = FrameDigits {
+        count: 0,
+        are_hexadecimal: true,
+    };
     let mut at = from;
     while at < line.len() {
-        let byte = line[at];
-        if !is_blank(byte) {
-            let digit = digit_of(byte);
-            if 15 < digit {
-                return FrameRead {
-                    count: 0,
-                    fault: Fault::NoHexadecimalDigit,
-                };
-            }
-            digits = with_digit(frame, digits, digit);
-        }
+        digits = with_byte(frame, digits, line[at]);
         at += 1;
     }
     FrameRead {
-        count: digits / 2,
+        count: digits.count / 2,
         fault: fault_of(digits),
     }
 }
 
-// The number of digits with one more; 65 stands for any number above 64.
-fn with_digit(frame: &mut [u8; 32], digits: usize, digit: u8) -> usize {
-    if 64 <= digits {
-        return 65;
+fn with_byte(frame: &mut [u8], before: FrameDigits, byte: u8) -> FrameDigits {
+    if is_blank(byte) {
+        return before;
     }
+    let digit = digit_of(byte);
+    if 15 < digit {
+        return FrameDigits {
+            count: before.count,
+            are_hexadecimal: false,
+        };
+    }
+    FrameDigits {
+        count: with_digit(frame, before.count, digit),
+        are_hexadecimal: before.are_hexadecimal,
+    }
+}
+
+// The number of digits with one more, as far as the buffer goes.
+fn with_digit(frame: &mut [u8], digits: usize, digit: u8) -> usize {
     let at = digits / 2;
-    if digits % 2 == 0 {
-        frame[at] = upper(digit);
-    } else {
-        frame[at] = frame[at] | digit;
+    if at < frame.len() {
+        frame[at] = with_half(frame[at], digits, digit);
+        return digits + 1;
     }
-    digits + 1
+    TOO_MANY
 }
 
-// A digit as the upper half of a byte.
-fn upper(digit: u8) -> u8 {
-    (digit % 16) * 16
+// A byte's upper half comes first.
+fn with_half(byte: u8, digits: usize, digit: u8) -> u8 {
+    if digits % 2 == 0 {
+        return (digit % 16) * 16;
+    }
+    byte | digit
 }
 
-fn fault_of(digits: usize) -> Fault {
-    if 64 < digits {
+fn fault_of(digits: FrameDigits) -> Fault {
+    if !digits.are_hexadecimal {
+        return Fault::NoHexadecimalDigit;
+    }
+    if TOO_MANY <= digits.count {
         return Fault::FrameTooLong;
     }
-    if digits % 2 == 1 {
+    if digits.count % 2 == 1 {
         return Fault::OddDigits;
     }
     Fault::Nothing

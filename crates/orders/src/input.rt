@@ -1,4 +1,6 @@
 // Standard input, a buffer at a time, and its lines.
+ghost use Prim.Native.Nat.{_≤_};
+ghost use lib.ListN.{length as size};
 
 // The longest line, without its LF.
 const LINE: usize = 256;
@@ -24,7 +26,7 @@ pub(crate) fn next_part(
     bytes: &[u8],
     from: usize,
     count: usize,
-    line: &mut [u8; 256],
+    line: &mut [u8],
     before: usize,
 ) -> Part {
     let mut length = before;
@@ -51,23 +53,32 @@ pub(crate) fn next_part(
     }
 }
 
-fn with_byte(line: &mut [u8; 256], length: usize, byte: u8) -> usize {
-    if length < LINE {
+fn with_byte(line: &mut [u8], length: usize, byte: u8) -> usize {
+    if length < line.len() {
         line[length] = byte;
         return length + 1;
     }
     LINE + 1
 }
 
-// The line's length without the CR that may stand before the LF.
-pub(crate) fn text_length(line: &[u8; 256], length: usize) -> usize {
-    if 0 < length {
-        if length <= LINE {
-            if line[length - 1] == 13 {
-                return length - 1;
-            }
-            return length;
-        }
+// The line is longer than a line may be.
+pub(crate) fn is_too_long(length: usize) -> bool {
+    LINE < length
+}
+
+// The line's length without the CR that may stand at its end.
+pub(crate) fn text_length(line: &[u8], length: usize) -> usize
+    ensures { λ r. ⌜ r ≤ size (now (line .entry)) ⌝ }
+{
+    if line.len() < length {
+        return 0;
     }
-    0
+    if length == 0 {
+        return 0;
+    }
+    let last = length - 1;
+    if line[last] == 13 {
+        return last;
+    }
+    length
 }

@@ -44,11 +44,18 @@ fn ends_now(answer: CallAnswer, call: Call) -> bool {
 
 fn is_writer_step(call: Call) -> bool {
     match call {
-        Call::StartLookup { reader: _, point: _ } => false,
+        Call::StartLookup {
+            reader: _,
+            point: _,
+        } => false,
         Call::StartWalk { reader: _ } => false,
         Call::StepReader { reader: _ } => false,
         Call::StartPut { point: _, value: _ } => false,
-        Call::StartChange { point: _, keep: _, flip: _ } => false,
+        Call::StartChange {
+            point: _,
+            keep: _,
+            flip: _,
+        } => false,
         Call::StartRemoval { point: _ } => false,
         Call::StartCommand => false,
         Call::StepWriter => true,
@@ -88,7 +95,10 @@ pub(crate) fn notes_now(
     frame: &[u8],
 ) -> Notes {
     match call {
-        Call::StartLookup { reader: _, point: _ } => notes,
+        Call::StartLookup {
+            reader: _,
+            point: _,
+        } => notes,
         Call::StartWalk { reader: _ } => notes,
         Call::StepReader { reader: _ } => notes,
         Call::StartPut { point, value } => begun(

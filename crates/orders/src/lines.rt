@@ -1,7 +1,9 @@
 // A line carried out.
+ghost use Prim.Native.Nat.{_≤_};
 use crate::call_lines::call_line;
 use crate::call_lines::panel_line;
 use crate::faults::Fault;
+use crate::input::is_too_long;
 use crate::input::text_length;
 use crate::messages;
 use crate::reading::Order;
@@ -28,7 +30,7 @@ pub(crate) struct Run {
 // A line of so many bytes, or, where that is more than the longest line has, the start of one.
 pub(crate) fn run_line(
     before: Run,
-    line: &[u8; 256],
+    line: &[u8],
     length: usize,
     slots: &mut [u64],
     words: &mut [u64],
@@ -37,7 +39,7 @@ pub(crate) fn run_line(
 ) -> Run {
     let mut now = before;
     now.number = std::num::wrapping_add_u64(now.number, 1);
-    if 256 < length {
+    if is_too_long(length) {
         return run_long_line(now, line, out);
     }
     let count = text_length(line, length);
@@ -70,14 +72,26 @@ fn run_text(
     out: &mut [u8],
 ) -> Run {
     let mut frame = [0u8; 32];
-    let order = order_of(line, &mut frame);
-    run_order(now, order, &frame, slots, words, places, out)
+    run_framed(now, line, &mut frame, slots, words, places, out)
+}
+
+fn run_framed(
+    now: Run,
+    line: &[u8],
+    frame: &mut [u8],
+    slots: &mut [u64],
+    words: &mut [u64],
+    places: &mut [u32],
+    out: &mut [u8],
+) -> Run {
+    let order = order_of(line, frame);
+    run_order(now, order, frame, slots, words, places, out)
 }
 
 fn run_order(
     now: Run,
     order: Order,
-    frame: &[u8; 32],
+    frame: &[u8],
     slots: &mut [u64],
     words: &mut [u64],
     places: &mut [u32],
@@ -114,20 +128,22 @@ fn make_panel(now: Run, m: u32, k: u32, slots: &mut [u64], out: &mut [u8]) -> Ru
     }
 }
 
-fn least(a: usize, b: usize) -> usize {
+fn least(a: usize, b: usize) -> usize
+    ensures { λ r. ⌜ (r ≤ a) × (r ≤ b) ⌝ }
+{
     if a < b { a } else { b }
 }
 
 fn run_command(
     now: Run,
-    frame: &[u8; 32],
+    frame: &[u8],
     count: usize,
     slots: &mut [u64],
     words: &mut [u64],
     places: &mut [u32],
     out: &mut [u8],
 ) -> Run {
-    let sent = least(count, 32);
+    let sent = least(count, frame.len());
     run_call(
         now,
         Call::StartCommand,
@@ -154,14 +170,7 @@ fn run_call(
     let session = now.session;
     let panel = session.panel;
     let lent = least(panel.m as usize, slots.len());
-    let carried = carry_out(
-        session,
-        &mut slots[..lent],
-        words,
-        places,
-        call,
-        frame,
-    );
+    let carried = carry_out(session, &mut slots[..lent], words, places, call, frame);
     let after = carried.session;
     let answer = carried.answer;
     Run {
@@ -173,19 +182,10 @@ fn run_call(
 }
 
 fn missing_panel(now: Run, out: &mut [u8]) -> Run {
-    with_filled(
-        now,
-        messages::panel_missing(now.filled, out, now.number),
-    )
+    with_filled(now, messages::panel_missing(now.filled, out, now.number))
 }
 
-fn show_panel(
-    now: Run,
-    slots: &[u64],
-    words: &[u64],
-    places: &[u32],
-    out: &mut [u8],
-) -> Run {
+fn show_panel(now: Run, slots: &[u64], words: &[u64], places: &[u32], out: &mut [u8]) -> Run {
     if !now.has_panel {
         return missing_panel(now, out);
     }

@@ -43,10 +43,10 @@ fn with_input(slots: &mut [u64], words: &mut [u64], places: &mut [u32]) {
 
 fn with_output(slots: &mut [u64], words: &mut [u64], places: &mut [u32], bytes: &mut [u8]) {
     let mut out = io::large_buffer();
-    run(slots, words, places, bytes, &mut out);
+    run_program(slots, words, places, bytes, &mut out);
 }
 
-fn run(
+fn run_program(
     slots: &mut [u64],
     words: &mut [u64],
     places: &mut [u32],
@@ -81,7 +81,7 @@ fn run_input(
     words: &mut [u64],
     places: &mut [u32],
     bytes: &mut [u8],
-    line: &mut [u8; 256],
+    line: &mut [u8],
     out: &mut [u8],
 ) -> Progress {
     let mut now = begun;
@@ -105,7 +105,7 @@ fn run_lines(
     words: &mut [u64],
     places: &mut [u32],
     bytes: &[u8],
-    line: &mut [u8; 256],
+    line: &mut [u8],
     out: &mut [u8],
 ) -> Progress {
     let mut now = begun.run;
@@ -131,7 +131,7 @@ fn finish(
     slots: &mut [u64],
     words: &mut [u64],
     places: &mut [u32],
-    line: &[u8; 256],
+    line: &[u8],
     out: &mut [u8],
 ) {
     let now = ended.run;

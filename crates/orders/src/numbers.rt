@@ -57,11 +57,11 @@ fn digits_at(line: &[u8], at: usize) -> Digits {
         let next = at + 1;
         if next < line.len() {
             if is_prefix(line[at], line[next]) {
-                return digits(line, next + 1, 16);
+                return read_digits(line, next + 1, 16);
             }
         }
     }
-    digits(line, at, 10)
+    read_digits(line, at, 10)
 }
 
 // 0x or 0X
@@ -76,7 +76,7 @@ fn is_prefix(first: u8, second: u8) -> bool {
 }
 
 // At least one digit of the base, and nothing else up to the end of the word.
-fn digits(line: &[u8], from: usize, base: u8) -> Digits {
+fn read_digits(line: &[u8], from: usize, base: u8) -> Digits {
     let mut value: u64 = 0;
     let mut at = from;
     while at < line.len() {

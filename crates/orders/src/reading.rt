@@ -32,7 +32,7 @@ pub(crate) fn is_comment(line: &[u8]) -> bool {
 }
 
 // A command's frame goes into the buffer.
-pub(crate) fn order_of(line: &[u8], frame: &mut [u8; 32]) -> Order {
+pub(crate) fn order_of(line: &[u8], frame: &mut [u8]) -> Order {
     if is_comment(line) {
         return Order::Nothing;
     }
@@ -43,7 +43,7 @@ pub(crate) fn order_of(line: &[u8], frame: &mut [u8; 32]) -> Order {
     Order::Nothing
 }
 
-fn order_at(line: &[u8], at: usize, frame: &mut [u8; 32]) -> Order {
+fn order_at(line: &[u8], at: usize, frame: &mut [u8]) -> Order {
     let next = behind_word(line, at);
     if is_word(line, at, b"panel") {
         return read_panel(line, next);
@@ -188,14 +188,12 @@ fn read_change(line: &[u8], from: Cursor) -> Order {
 
 fn read_removal(line: &[u8], from: Cursor) -> Order {
     let point = number(line, from, Argument::Point);
-    let call = Call::StartRemoval {
-        point: point.value,
-    };
+    let call = Call::StartRemoval { point: point.value };
     finished(line, point.next, Order::Call(call))
 }
 
 // Everything behind the word is the frame.
-fn read_command(line: &[u8], from: usize, frame: &mut [u8; 32]) -> Order {
+fn read_command(line: &[u8], from: usize, frame: &mut [u8]) -> Order {
     let read = frame_at(line, from, frame);
     let fault = read.fault;
     match fault {

@@ -6,8 +6,10 @@ use crate::output::line_end;
 use crate::output::room;
 use crate::output::text;
 use crate::rows_shown::do_show;
+use crate::rows_shown::is_place;
 use crate::rows_shown::row_at;
-use crate::rows_shown::row_word;
+use crate::rows_shown::word_at;
+use refusal::tests::both_hold;
 
 pub(crate) fn show(
     filled: usize,
@@ -40,26 +42,43 @@ fn slot_lines(
     let mut slot = 0;
     while slot < slots.len() {
         let word = slots[slot];
-        let row = row_at(places, rows, slot);
-        if is_plainly_empty(word, row, rows) {
-            empty = std::num::wrapping_add_u64(empty, 1);
-        } else {
-            after = slot_line(after, out, slot, word, row_word(words, row, rows));
-        }
+        let is_empty = both_hold(word == 0, !is_place(places, rows, slot));
+        let row = row_word(words, places, rows, slot);
+        after = slot_line(after, out, is_empty, slot, word, row);
+        empty = counted(empty, is_empty);
         slot += 1;
     }
     empty_line(after, out, empty)
 }
 
-// The slot is 0, and no row's place.
-fn is_plainly_empty(word: u64, row: usize, rows: usize) -> bool {
-    if word == 0 {
-        return rows <= row;
+fn counted(count: u64, is_one_more: bool) -> u64 {
+    if is_one_more {
+        return std::num::wrapping_add_u64(count, 1);
     }
-    false
+    count
 }
 
-fn slot_line(filled: usize, out: &mut [u8], slot: usize, word: u64, row: u64) -> usize {
+// The word of the row with that place; 0 if there is none.
+fn row_word(words: &[u64], places: &[u32], rows: usize, place: usize) -> u64 {
+    let row = row_at(places, rows, place);
+    if row < rows {
+        return word_at(words, row);
+    }
+    0
+}
+
+// Nothing for a slot that is 0 and no row's place.
+fn slot_line(
+    filled: usize,
+    out: &mut [u8],
+    is_empty: bool,
+    slot: usize,
+    word: u64,
+    row: u64,
+) -> usize {
+    if is_empty {
+        return filled;
+    }
     let named = text(room(filled, out), out, b"  slot ");
     let numbered = text(decimal(named, out, slot as u64), out, b": ");
     let held = word_or_none(numbered, out, word, b"empty");
@@ -89,5 +108,9 @@ fn verdict_line(filled: usize, out: &mut [u8], shows: bool) -> usize {
     if shows {
         return text(begun, out, b"  the slots show the plain list\n");
     }
-    text(begun, out, b"  DIFFERENT: the slots do not show the plain list\n")
+    text(
+        begun,
+        out,
+        b"  DIFFERENT: the slots do not show the plain list\n",
+    )
 }

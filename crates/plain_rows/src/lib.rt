@@ -1,6 +1,8 @@
 // Document 01's plain list as code, kept beside the slots for whoever wants to see what the table must
 // show. Its rows lie in two lent slices: a row's point and value in a word of `words`, its place in the
 // same index of `places`. A new row goes behind the others.
+ghost use Rattle.plain_rows.specs.Rows.{Room};
+ghost use Rattle.plain_rows.specs.Fed.{operationOf, fedRows, Feeds};
 mod indices;
 mod operations;
 mod rows;
@@ -36,22 +38,27 @@ pub fn feed(
     m: u32,
     k: u32,
     operation: Operation,
-) -> Fed {
-    if has_room(words.len(), places.len(), count) {
-        return fed(words, places, count, m, k, operation);
+) -> Fed
+    ensures { λ r. ⌜ Feeds (now (words .entry)) (now (places .entry)) (now (words .exit)) (now (places .exit)) r (fedRows m k (operationOf operation) (now (words .entry)) (now (places .entry)) count) ⌝ }
+{
+    if has_room(words, places, count) {
+        return feed_rows(words, places, count, m, k, operation);
     }
     misfit(count)
 }
 
 // The same where the slices hold the rows.
-fn fed(
+fn feed_rows(
     words: &mut [u64],
     places: &mut [u32],
     count: usize,
     m: u32,
     k: u32,
     operation: Operation,
-) -> Fed {
+) -> Fed
+    requires { ⌜ Room (now words) (now places) count ⌝ }
+    ensures { λ r. ⌜ Feeds (now (words .entry)) (now (places .entry)) (now (words .exit)) (now (places .exit)) r (fedRows m k (operationOf operation) (now (words .entry)) (now (places .entry)) count) ⌝ }
+{
     match operation {
         Operation::Nothing => Fed {
             count: count,

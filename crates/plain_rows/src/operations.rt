@@ -1,21 +1,28 @@
 // What each operation makes of the rows, and what the list answers. The slices hold the rows.
+ghost use mathlib.Core.Path.{_≡_};
+ghost use Rattle.answers.specs.Answers.{Answer, refused, endedWith, paperCall};
+ghost use Rattle.plain_list.specs.PlainList.{indexOf, addRow, putRow, changeRow, removeRow};
+ghost use Rattle.plain_rows.specs.Rows.{rowsOf, Room};
+ghost use Rattle.plain_rows.specs.Fed.{inSlices, Feeds};
 use crate::Fed;
 use crate::indices::first_free;
 use crate::indices::index_of;
 use crate::indices::largest_index;
 use crate::rows::Entry;
 use crate::rows::entry_of;
-use crate::rows::has_room;
 use crate::rows::with_value;
 use crate::rows::without;
 use answers::CallAnswer;
 use answers::Spot;
 use hash::position;
 use refusal::Refusal;
+use refusal::tests::both_hold;
 use slot_words::word::word_of;
 
 // A slice is too short: as many rows as before, and refusal 1.
-pub(crate) fn misfit(count: usize) -> Fed {
+pub(crate) fn misfit(count: usize) -> Fed
+    ensures { λ r. ⌜ (r .count ≡ count) × (paperCall (r .answer) ≡ refused 1) ⌝ }
+{
     Fed {
         count: count,
         answer: CallAnswer::Refused(Refusal::Misfit),
@@ -23,7 +30,9 @@ pub(crate) fn misfit(count: usize) -> Fed {
 }
 
 // No row of the point: as many rows as before, and refusal 7.
-fn unknown(count: usize) -> Fed {
+fn unknown(count: usize) -> Fed
+    ensures { λ r. ⌜ (r .count ≡ count) × (paperCall (r .answer) ≡ endedWith 7) ⌝ }
+{
     Fed {
         count: count,
         answer: CallAnswer::Unknown,
@@ -31,7 +40,9 @@ fn unknown(count: usize) -> Fed {
 }
 
 // The point has a row at the place: so many rows, and the place with its index.
-fn placed(count: usize, m: u32, k: u32, point: u32, place: u32) -> Fed {
+fn placed(count: usize, m: u32, k: u32, point: u32, place: u32) -> Fed
+    ensures { λ r. ⌜ (r .count ≡ count) × (paperCall (r .answer) ≡ Answer.placed place (indexOf m k point place)) ⌝ }
+{
     Fed {
         count: count,
         answer: CallAnswer::Placed(Spot {
@@ -49,7 +60,10 @@ pub(crate) fn put_row(
     k: u32,
     point: u32,
     value: u32,
-) -> Fed {
+) -> Fed
+    requires { ⌜ Room (now words) (now places) count ⌝ }
+    ensures { λ r. ⌜ Feeds (now (words .entry)) (now (places .entry)) (now (words .exit)) (now (places .exit)) r (inSlices (now (words .entry)) (now (places .entry)) count (putRow m k point value (rowsOf (now (words .entry)) (now (places .entry)) count))) ⌝ }
+{
     match entry_of(words, places, count, point) {
         Entry::Absent => {
             let index = first_free(places, count, m, k, point);
@@ -72,22 +86,23 @@ fn add_row(
     point: u32,
     value: u32,
     index: u32,
-) -> Fed {
+) -> Fed
+    requires { ⌜ Room (now words) (now places) count ⌝ }
+    ensures { λ r. ⌜ Feeds (now (words .entry)) (now (places .entry)) (now (words .exit)) (now (places .exit)) r (inSlices (now (words .entry)) (now (places .entry)) count (addRow m k point value (rowsOf (now (words .entry)) (now (places .entry)) count) index)) ⌝ }
+{
     if index == 0 {
         return Fed {
             count: count,
             answer: CallAnswer::NoPerch,
         };
     }
-    if count < words.len() {
-        if count < places.len() {
-            let place = position(m, point, index);
-            words[count] = word_of(point, value);
-            places[count] = place;
-            return placed(count + 1, m, k, point, place);
-        }
+    if !both_hold(count < words.len(), count < places.len()) {
+        return misfit(count);
     }
-    misfit(count)
+    let place = position(m, point, index);
+    words[count] = word_of(point, value);
+    places[count] = place;
+    placed(count + 1, m, k, point, place)
 }
 
 pub(crate) fn change_row(
@@ -97,7 +112,10 @@ pub(crate) fn change_row(
     point: u32,
     keep: u32,
     flip: u32,
-) -> Fed {
+) -> Fed
+    requires { ⌜ Room (now words) (now places) count ⌝ }
+    ensures { λ r. ⌜ Feeds (now (words .entry)) (now (places .entry)) (now (words .exit)) (now (places .exit)) r (inSlices (now (words .entry)) (now (places .entry)) count (changeRow point keep flip (rowsOf (now (words .entry)) (now (places .entry)) count))) ⌝ }
+{
     match entry_of(words, places, count, point) {
         Entry::Absent => unknown(count),
         Entry::Present { value, place: _ } => {
@@ -118,7 +136,10 @@ pub(crate) fn remove_row(
     m: u32,
     k: u32,
     point: u32,
-) -> Fed {
+) -> Fed
+    requires { ⌜ Room (now words) (now places) count ⌝ }
+    ensures { λ r. ⌜ Feeds (now (words .entry)) (now (places .entry)) (now (words .exit)) (now (places .exit)) r (inSlices (now (words .entry)) (now (places .entry)) count (removeRow m k point (rowsOf (now (words .entry)) (now (places .entry)) count))) ⌝ }
+{
     match entry_of(words, places, count, point) {
         Entry::Absent => unknown(count),
         Entry::Present { value: _, place: _ } => {

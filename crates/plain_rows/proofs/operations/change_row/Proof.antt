@@ -1,0 +1,68 @@
+-- `plain_rows::operations::change_row` meets its contract, by whether the point has a row.
+-- Assumes nothing.
+use mathlib.Core.Path.{_∙_, refl, sym, ap}
+use borrow.Author.Needs.{needs}
+use denote.Ref.{now}
+use Rattle.answers.specs.Answers.{endedWith}
+use Rattle.plain_list.specs.PlainList.{changeEntry, changeRow}
+use Rattle.plain_rows.specs.Rows.{entryRead}
+use Rattle.plain_rows.proofs.FedLaws.{feeds-nothing, feeds-value}
+use Rattle.plain_rows.proofs.operations.change_row.Statement.{statement}
+use Rattle.plain_rows.proofs.operations.change_row.Tie as tie
+
+entry-of-requires : tie.Need-entry-of-requires
+entry-of-requires c κs = search needs
+
+enum-told : tie.Need-enum-told
+enum-told c = search needs
+
+unknown-requires : tie.Need-unknown-requires
+unknown-requires c κs = search needs
+
+enum-known-value : tie.Need-enum-known-value
+enum-known-value c = search needs
+
+with-value-requires : tie.Need-with-value-requires
+with-value-requires c κs = search needs
+
+same-length : tie.Need-same-length
+same-length c = search needs
+
+same-length-2 : tie.Need-same-length-2
+same-length-2 c = search needs
+
+returns : tie.Need-returns
+unfolding changeRow changeEntry
+returns c =
+    let a = c .before .before .before .before .before .before .before .before .args in
+    let none = sym (c .before .before .before .entry-of .ensures) ∙ ap entryRead (c .before .enum-told .given .1) in
+    feeds-nothing (now (a .words)) (now (a .places)) (a .count) (c .before .before .before .before .before .before .before .before .pre) (c .unknown .result) _ (endedWith 7) (c .unknown .ensures .0) (c .unknown .ensures .1) (rw none)
+
+same-length-3 : tie.Need-same-length-3
+same-length-3 c = search needs
+
+same-length-4 : tie.Need-same-length-4
+same-length-4 c = search needs
+
+returns-2 : tie.Need-returns-2
+unfolding changeRow changeEntry
+returns-2 c =
+    let a = c .before .before .before .before .before .before .before .before .before .before .before .before .args in
+    let some = sym (c .before .before .before .before .before .before .before .entry-of .ensures) ∙ ap entryRead (c .before .before .before .before .before .value .given .1) in
+    feeds-value (now (a .words)) (now (a .places)) (a .count) (c .before .before .before .before .before .before .before .before .before .before .before .before .pre) _ _ (c .before .before .with-value .last .0) (a .point) _ _ (c .before .before .with-value .ensures) refl refl (rw some)
+
+pub change-row-spec : {M : Type 1} → statement M
+change-row-spec =
+    tie.close
+    (tie.spec
+    entry-of-requires
+    enum-told
+    unknown-requires
+    enum-known-value
+    with-value-requires
+    same-length
+    same-length-2
+    returns
+    same-length-3
+    same-length-4
+    returns-2)

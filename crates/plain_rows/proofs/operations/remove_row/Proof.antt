@@ -1,0 +1,74 @@
+-- `plain_rows::operations::remove_row` meets its contract, by whether the point has a row.
+-- Assumes nothing.
+use mathlib.Core.Path.{_∙_, refl, sym, ap}
+use borrow.Author.Needs.{needs}
+use denote.Ref.{now}
+use Rattle.answers.specs.Answers.{removed, endedWith}
+use Rattle.plain_list.specs.PlainList.{largestIndex, removeEntry, removeRow}
+use Rattle.plain_rows.specs.Rows.{entryRead}
+use Rattle.plain_rows.proofs.FedLaws.{feeds-nothing, feeds-without}
+use Rattle.plain_rows.proofs.operations.remove_row.Statement.{statement}
+use Rattle.plain_rows.proofs.operations.remove_row.Tie as tie
+
+entry-of-requires : tie.Need-entry-of-requires
+entry-of-requires c κs = search needs
+
+enum-told : tie.Need-enum-told
+enum-told c = search needs
+
+unknown-requires : tie.Need-unknown-requires
+unknown-requires c κs = search needs
+
+enum-told-2 : tie.Need-enum-told-2
+enum-told-2 c = search needs
+
+without-requires : tie.Need-without-requires
+without-requires c κs = search needs
+
+largest-index-requires : tie.Need-largest-index-requires
+largest-index-requires c κs = search needs
+
+same-length : tie.Need-same-length
+same-length c = search needs
+
+same-length-2 : tie.Need-same-length-2
+same-length-2 c = search needs
+
+returns : tie.Need-returns
+unfolding removeRow removeEntry
+returns c =
+    let a = c .before .before .before .before .before .before .before .before .args in
+    let none = sym (c .before .before .before .entry-of .ensures) ∙ ap entryRead (c .before .enum-told .given .1) in
+    feeds-nothing (now (a .words)) (now (a .places)) (a .count) (c .before .before .before .before .before .before .before .before .pre) (c .unknown .result) _ (endedWith 7) (c .unknown .ensures .0) (c .unknown .ensures .1) (rw none)
+
+same-length-3 : tie.Need-same-length-3
+same-length-3 c = search needs
+
+same-length-4 : tie.Need-same-length-4
+same-length-4 c = search needs
+
+returns-2 : tie.Need-returns-2
+unfolding removeRow removeEntry
+returns-2 c =
+    let a = c .before .before .before .before .before .before .before .before .before .before .before .before .before .before .before .before .before .args in
+    let some = sym (c .before .before .before .before .before .before .before .before .before .before .before .before .entry-of .ensures) ∙ ap entryRead (c .before .before .before .before .before .before .before .before .before .before .enum-told2 .given .1) in
+    let removes = c .before .before .before .before .before .before .before .without .ensures in
+    let largest = c .largest-index .ensures ∙ ap (largestIndex (a .m) (a .k)) (removes .shown) in
+    feeds-without (now (a .words)) (now (a .places)) (a .count) (c .before .before .before .before .before .before .before .before .before .before .before .before .before .before .before .before .before .pre) _ _ (c .before .before .before .before .before .before .before .without .last .0) (c .before .before .before .before .before .before .before .without .last .1 .0) (c .before .before .before .before .before .before .before .without .result) (a .point) _ removes refl (ap removed largest) (rw some)
+
+pub remove-row-spec : {M : Type 1} → statement M
+remove-row-spec =
+    tie.close
+    (tie.spec
+    entry-of-requires
+    enum-told
+    unknown-requires
+    enum-told-2
+    without-requires
+    largest-index-requires
+    same-length
+    same-length-2
+    returns
+    same-length-3
+    same-length-4
+    returns-2)

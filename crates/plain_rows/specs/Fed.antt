@@ -1,0 +1,40 @@
+-- Document 01, "The plain list": what the slices, the count and the answer come to when the list is fed.
+use Prim.Native.Nat.{ℕ}
+use mathlib.Core.Bool.{Bool, true, false}
+use mathlib.Core.List.{List}
+use mathlib.Core.Path.{_≡_}
+use lib.ListN.{length}
+use Rattle.refusal.specs.Judging.{both}
+use Rattle.answers.specs.Answers.{Answer, refused, paperCall}
+use Rattle.plain_list.specs.PlainList.{Rows, Told, tells, Operation, nothing, put, change, removal, feed}
+use Rattle.plain_rows.specs.declared.Operation.{Operation as OperationFed}
+use Rattle.plain_rows.specs.declared.Operation.the-variants.{Nothing, Put, Change, Removal}
+use Rattle.plain_rows.specs.declared.Fed.{Fed}
+use Rattle.plain_rows.specs.Rows.{rowsOf, hasRoom, SameFrom}
+
+-- "the arguments of each put, change and removal": the code's enum
+abbrev pub operationOf : OperationFed → Operation
+operationOf Nothing = nothing
+operationOf (Put point value) = put point value
+operationOf (Change point keep flip) = change point keep flip
+operationOf (Removal point) = removal point
+
+-- what the list was told if there is room for it; else refusal 1, "slots lent ≠ m", with the rows as they were
+unfoldable pub ifRoom : Bool → Rows → Told → Told
+ifRoom true rows told = told
+ifRoom false rows told = tells rows (refused 1)
+
+-- the slices must have room for the rows before and after
+unfoldable pub inSlices : List ℕ → List ℕ → ℕ → Told → Told
+inSlices words places count told =
+    ifRoom (both (hasRoom words places count) (hasRoom words places (length (told .rows)))) (rowsOf words places count) told
+
+-- "It is fed the arguments of each put, change and removal that is started"
+unfoldable pub fedRows : ℕ → ℕ → Operation → List ℕ → List ℕ → ℕ → Told
+fedRows m k operation words places count = inSlices words places count (feed m k operation (rowsOf words places count))
+
+-- the slices after the call show what the list was told, and are as before from the new count on
+pub record Feeds (words places words′ places′ : List ℕ) (fed : Fed) (told : Told) : Type 0 where
+  pub shown : tells (rowsOf words′ places′ (fed .count)) (paperCall (fed .answer)) ≡ told
+  pub words-stay : SameFrom (fed .count) words words′
+  pub places-stay : SameFrom (fed .count) places places′

@@ -7,9 +7,6 @@ use crate::reference_record::Record;
 /// So few that each sends many commands.
 const LAST_STATION: u32 = 3;
 
-/// A station and its command's number.
-pub type Number = (u32, u32);
-
 #[derive(Clone, Copy, Debug, PartialEq, Eq)]
 pub struct Sent {
     pub station: u32,
@@ -51,9 +48,5 @@ impl Sent {
         };
         assert_eq!(write(&mut bytes, &fields), Ok(10));
         bytes
-    }
-
-    pub fn identity(&self) -> Number {
-        (self.station, self.number)
     }
 }

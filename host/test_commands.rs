@@ -1,11 +1,18 @@
 //! What is noted of a history's commands, against document 01's claim: each acts at most once, and
 //! an answer given again is the one that its change gave.
 
-use crate::drawn_commands::{Number, Sent};
+use crate::drawn_commands::Sent;
 use crate::plain_feeding::Answer;
 use crate::reference_command::Entry;
 use crate::reference_record::{Record, Station, Writer};
 use std::collections::{HashMap, HashSet};
+
+/// A station and its command's number.
+type Number = (u32, u32);
+
+fn identity(sent: &Sent) -> Number {
+    (sent.station, sent.number)
+}
 
 #[derive(Default)]
 pub struct Notes {
@@ -21,7 +28,7 @@ impl Notes {
     /// What the entry answered to a command that arrived while the writer had this work.
     pub fn answered(&mut self, sent: Sent, answer: Result<Entry, u32>, work: Writer) {
         let last = self.last_number(sent.station);
-        let expected = match self.ended.get(&sent.identity()) {
+        let expected = match self.ended.get(&identity(&sent)) {
             Some(&(same, stored)) if same == sent && sent.number == last => {
                 Ok(Entry::GivenAgain(stored))
             }
@@ -44,7 +51,7 @@ impl Notes {
     /// The writer has stored a slot.
     pub fn slot_stored(&mut self) {
         if let Some(sent) = self.underway {
-            let is_first = self.acted.insert(sent.identity());
+            let is_first = self.acted.insert(identity(&sent));
             assert!(is_first, "{sent:?} acted twice");
         }
     }
@@ -55,8 +62,8 @@ impl Notes {
             return;
         };
         let value = answer.ok().map(|(value, _)| value);
-        assert_eq!(self.acted.contains(&sent.identity()), value.is_some());
-        let before = self.ended.insert(sent.identity(), (sent, value));
+        assert_eq!(self.acted.contains(&identity(&sent)), value.is_some());
+        let before = self.ended.insert(identity(&sent), (sent, value));
         assert_eq!(before, None, "{sent:?} ended twice");
         let kept = Station {
             number: sent.number,

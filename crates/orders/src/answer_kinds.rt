@@ -1,8 +1,12 @@
 // What an answer tells of the operation.
+ghost use mathlib.Core.Path.{_≡_};
+ghost use Rattle.answers.specs.Answers.{paperCall, hasEnded, isRefused, isStarted};
 use answers::CallAnswer;
 
 // A step has ended the operation.
-pub(crate) fn has_ended(answer: CallAnswer) -> bool {
+pub(crate) fn has_ended(answer: CallAnswer) -> bool
+    ensures { λ r. ⌜ r ≡ hasEnded (paperCall answer) ⌝ }
+{
     match answer {
         CallAnswer::Started => false,
         CallAnswer::GivenAgain(_) => false,
@@ -20,7 +24,9 @@ pub(crate) fn has_ended(answer: CallAnswer) -> bool {
 }
 
 // The call was refused, and nothing happened.
-pub(crate) fn is_refused(answer: CallAnswer) -> bool {
+pub(crate) fn is_refused(answer: CallAnswer) -> bool
+    ensures { λ r. ⌜ r ≡ isRefused (paperCall answer) ⌝ }
+{
     match answer {
         CallAnswer::Started => false,
         CallAnswer::GivenAgain(_) => false,
@@ -38,7 +44,9 @@ pub(crate) fn is_refused(answer: CallAnswer) -> bool {
 }
 
 // The call has started an operation.
-pub(crate) fn is_started(answer: CallAnswer) -> bool {
+pub(crate) fn is_started(answer: CallAnswer) -> bool
+    ensures { λ r. ⌜ r ≡ isStarted (paperCall answer) ⌝ }
+{
     match answer {
         CallAnswer::Started => true,
         CallAnswer::GivenAgain(_) => false,

@@ -1,4 +1,13 @@
 // A panel with the plain list beside it, and a call carried out on both.
+ghost use Prim.Native.Nat.{ℕ};
+ghost use mathlib.Core.List.{List};
+ghost use mathlib.Core.Path.{_≡_};
+ghost use lib.ListN.{length};
+ghost use Rattle.record.specs.Parts.{freshRecord};
+ghost use Rattle.answers.specs.Answers.{paperCall};
+ghost use Rattle.history.specs.Calls.{applied};
+ghost use Rattle.history.specs.World.{World, next, freshWorld};
+ghost use Rattle.orders.specs.Kept.{Keeps, Reached, request};
 use crate::kept_list::Notes;
 use crate::kept_list::feeds_now;
 use crate::kept_list::notes_now;
@@ -23,18 +32,21 @@ pub(crate) struct Carried {
 }
 
 // A panel of which nothing was asked yet: the list has no row.
-pub(crate) fn opened(panel: Record) -> Session {
+pub(crate) fn opened(panel: Record) -> Session
+    ensures { λ r. ⌜ ((m k : ℕ) (words places : List ℕ) → panel ≡ freshRecord m k → length words ≡ m → length places ≡ m → Keeps (freshWorld m k) r (freshWorld m k .slots) words places) ⌝ }
+{
     Session {
         panel: panel,
         notes: Notes {
             asked: Operation::Nothing,
-            has_fed: false,
+            fed: false,
         },
         rows: 0,
     }
 }
 
-// Carries a call out, and feeds the list if the call feeds it.
+// Carries a call out, and feeds the list if the call feeds it: whatever list of calls led here, what is
+// kept is the plain list of the claim about all of them.
 pub(crate) fn carry_out(
     before: Session,
     slots: &mut [u64],
@@ -42,14 +54,17 @@ pub(crate) fn carry_out(
     places: &mut [u32],
     call: Call,
     frame: &[u8],
-) -> Carried {
+) -> Carried
+    ensures given { λ r. ⌜ paperCall (r .answer) ≡ applied (before .panel) (now (slots .entry)) call (now (frame .entry)) .answer ⌝ }
+    ensures kept { λ r. ⌜ ((world : World) → Reached world → Keeps world before (now (slots .entry)) (now (words .entry)) (now (places .entry)) → Keeps (next world (request call (now (frame .entry)))) (r .session) (now (slots .exit)) (now (words .exit)) (now (places .exit))) ⌝ }
+{
     let panel = before.panel;
     let notes = before.notes;
     let asked = notes.asked;
     let done = apply(panel, slots, call, frame);
     let after = done.panel;
     let answer = done.answer;
-    let feeds = feeds_now(panel, notes.has_fed, answer, call);
+    let feeds = feeds_now(panel, notes.fed, answer, call);
     Carried {
         session: Session {
             panel: after,

@@ -3,6 +3,7 @@
 // same index of `places`. A new row goes behind the others.
 ghost use Rattle.plain_rows.specs.Rows.{Room};
 ghost use Rattle.plain_rows.specs.Fed.{operationOf, fedRows, Feeds};
+
 mod indices;
 mod operations;
 mod rows;

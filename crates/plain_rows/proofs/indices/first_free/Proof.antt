@@ -40,10 +40,10 @@ returns c =
     let l = c .before .before .before .before .loop in
     let a = c .before .before .before .before .before .before .args in
     λ words.
-      sym
-      (free-is (a .m) (a .k) (a .point) (l .passed + 1) (rowsOf words (now (a .places)) (a .count)) (omega arith) (omega arith)
-      (ap (λ (place : ℕ). isPlace place (rowsOf words (now (a .places)) (a .count))) (sym (c .before .before .position .ensures)) ∙ sym (c .before .is-place .ensures words) ∙ not-true _ (c .if1 .taken))
-      (λ i low below. l .inv .1 i below low words))
+    sym
+    (free-is (a .m) (a .k) (a .point) (l .passed + 1) (rowsOf words (now (a .places)) (a .count)) (omega arith) (omega arith)
+    (ap (λ (place : ℕ). isPlace place (rowsOf words (now (a .places)) (a .count))) (sym (c .before .before .position .ensures)) ∙ sym (c .before .is-place .ensures words) ∙ not-true _ (c .if1 .taken))
+    (λ i low below. l .inv .1 i below low words))
 
 loop-less : tie.Need-loop-less Inv-loop μ-loop
 loop-less c = search needs
@@ -55,7 +55,7 @@ loop-again c =
       omega arith,
       below-more _ _ (l .inv .1)
           (λ low words.
-            ap (λ (place : ℕ). isPlace place (rowsOf words (now (a .places)) (a .count))) (sym (c .before .before .position .ensures)) ∙ sym (c .before .is-place .ensures words) ∙ not-false _ (c .if1 .left)),
+          ap (λ (place : ℕ). isPlace place (rowsOf words (now (a .places)) (a .count))) (sym (c .before .before .position .ensures)) ∙ sym (c .before .is-place .ensures words) ∙ not-false _ (c .if1 .left)),
     )
 
 returns-2 : tie.Need-returns-2 Inv-loop μ-loop
@@ -63,8 +63,8 @@ returns-2 c =
     let l = c .before .loop in
     let a = c .before .before .before .args in
     λ words.
-      sym
-      (none-free (a .m) (a .k) (a .point) (rowsOf words (now (a .places)) (a .count)) (λ i low high. l .inv .1 i (omega arith) low words))
+    sym
+    (none-free (a .m) (a .k) (a .point) (rowsOf words (now (a .places)) (a .count)) (λ i low high. l .inv .1 i (omega arith) low words))
 
 pub first-free-spec : {M : Type 1} → statement M
 first-free-spec =

@@ -66,10 +66,20 @@ loop-again c =
     let a = c .before .before .before .before .before .before .before .args in
     let same = c .before .point-of .ensures in
     ⊎-elim
-    (λ w. (omega arith, omega (arith, w .4), ap length (w .2) ∙ simp length-set (l .inv .2), ap length (w .3) ∙ simp length-set (l .inv .3),
-      rw (w .2, w .3, w .4) (removes-kept (now (a .words)) (now (a .places)) (a .point) (l .words) (l .places) (l .i) (l .left) (l .inv .4) (omega arith) (omega arith) (λ e. w .0 .taken (same ∙ e)))))
-    (λ w. (omega arith, omega (arith, w .3), ap length (w .1) ∙ l .inv .2, ap length (w .2) ∙ l .inv .3,
-      rw (w .1, w .2, w .3) (removes-gone (now (a .words)) (now (a .places)) (a .point) (l .words) (l .places) (l .i) (l .left) (l .inv .4) (sym same ∙ w .0 .left))))
+    (λ w. (
+      omega arith,
+      omega (arith, w .4),
+      ap length (w .2) ∙ simp length-set (l .inv .2),
+      ap length (w .3) ∙ simp length-set (l .inv .3),
+      rw (w .2, w .3, w .4) (removes-kept (now (a .words)) (now (a .places)) (a .point) (l .words) (l .places) (l .i) (l .left) (l .inv .4) (omega arith) (omega arith) (λ e. w .0 .taken (same ∙ e))),
+    ))
+    (λ w. (
+      omega arith,
+      omega (arith, w .3),
+      ap length (w .1) ∙ l .inv .2,
+      ap length (w .2) ∙ l .inv .3,
+      rw (w .1, w .2, w .3) (removes-gone (now (a .words)) (now (a .places)) (a .point) (l .words) (l .places) (l .i) (l .left) (l .inv .4) (sym same ∙ w .0 .left)),
+    ))
     (c .if1 .came)
 
 same-length : tie.Need-same-length Inv-loop μ-loop

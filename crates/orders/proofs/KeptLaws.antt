@@ -15,8 +15,8 @@ use Rattle.refusal.proofs.Laws.{not-refused, number-positive}
 use Rattle.record.specs.declared.Record.{Record}
 use Rattle.record_ranges.specs.Ranges.{inRange}
 use Rattle.answers.specs.Answers.{Answer, started, underway, lookedUp, placed, changed, removed, endedWith, walked, walkedLast, givenAgain, gives, refused, hasEnded, isStarted, isRefused, Outcome, outcome, unlessRefused}
-use Rattle.plain_list.specs.PlainList.{Rows, Told, Operation, feed}
-use Rattle.plain_list.proofs.Agreement.{Agrees}
+use Rattle.plain_list.specs.PlainList.{Rows, Told, feed, Shows}
+use Rattle.plain_list.proofs.Agreement.{Agrees, shows}
 use Rattle.plain_rows.specs.Rows.{rowsOf}
 use Rattle.plain_rows.specs.Fed.{operationOf, fedRows}
 use Rattle.plain_rows.proofs.RoomLaws.{fed-by-panel}
@@ -153,11 +153,8 @@ reached-inv (begun m k m-low m-high k-low k-high) = own m k (freshWorld m k) (fr
 reached-inv (called {world} reached request fit) =
     own (world .panel .m) (world .panel .k) (next world request) (call-keeps (world .panel .m) (world .panel .k) world request (reached-inv reached) fit)
 
--- a call carried out
-module _ (world : World) (reached : Reached world) (before : Session) (slots words places : List ℕ) (keeps : Keeps world before slots words places) (call : Call) (frame : List ℕ) where
-  abbrev role : Role
-  role = roleOf call frame
-
+-- a session that keeps such a world
+module _ (world : World) (reached : Reached world) (before : Session) (slots words places : List ℕ) (keeps : Keeps world before slots words places) where
   abbrev m : ℕ
   m = world .panel .m
 
@@ -180,8 +177,17 @@ module _ (world : World) (reached : Reached world) (before : Session) (slots wor
       ∙ fed-by-panel m k words places (before .rows) (operationOf (before .notes .asked)) (world .panel .reach) (world .panel .counts) (world .slots) agrees (keeps .words-length ∙ as-long) (keeps .places-length ∙ as-long)
       ∙ ap₂ (feed m k) (keeps .notes .asked) (keeps .rows)
 
-  -- what the code's functions say of the session after it
-  module _ (after : Session) (answer : Answer) (slots′ words′ places′ : List ℕ) (feeds : Bool) (done : outcome (after .panel) slots′ answer ≡ applied (before .panel) slots call frame) (whole : length slots′ ≡ length slots) (feeding : feeds ≡ feedsAfter (before .panel) (before .notes .fed) answer (roleOf call frame)) where
+  -- the slots show the list that is kept
+  pub kept-shows : Shows (length slots) slots (rowsOf words places (before .rows))
+  kept-shows =
+      let shown : Shows m (world .slots) (rowsOf words places (before .rows)) = shows m k (world .panel .reach) (world .panel .counts) (world .slots) (rowsOf words places (before .rows)) agrees in
+      subst (λ (n : ℕ). Shows n slots (rowsOf words places (before .rows))) (sym as-long) (subst (λ (l : List ℕ). Shows m l (rowsOf words places (before .rows))) (sym (keeps .slots-kept)) shown)
+
+  -- a call carried out, and what the code's functions say of the session after it
+  module _ (call : Call) (frame : List ℕ) (after : Session) (answer : Answer) (slots′ words′ places′ : List ℕ) (feeds : Bool) (done : outcome (after .panel) slots′ answer ≡ applied (before .panel) slots call frame) (whole : length slots′ ≡ length slots) (feeding : feeds ≡ feedsAfter (before .panel) (before .notes .fed) answer (roleOf call frame)) where
+    abbrev role : Role
+    role = roleOf call frame
+
     same : outcome (after .panel) slots′ answer ≡ outcomeOf world (request call frame)
     unfolding outcomeOf
     same = done ∙ ap₂ (λ (panel : Record) (slots : List ℕ). applied panel slots call frame) (keeps .panel) (keeps .slots-kept)

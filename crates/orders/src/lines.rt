@@ -169,8 +169,18 @@ fn run_call(
     }
     let session = now.session;
     let panel = session.panel;
-    let lent = least(panel.m as usize, slots.len());
-    let carried = carry_out(session, &mut slots[..lent], words, places, call, frame);
+    let m = panel.m as usize;
+    let lent = least(m, slots.len());
+    let in_words = least(m, words.len());
+    let in_places = least(m, places.len());
+    let carried = carry_out(
+        session,
+        &mut slots[..lent],
+        &mut words[..in_words],
+        &mut places[..in_places],
+        call,
+        frame,
+    );
     let after = carried.session;
     let answer = carried.answer;
     Run {

@@ -37,11 +37,13 @@ returns c =
     let feeds = c .before .before .before .before .before .before .before .before .feeds-now in
     let notes = c .before .before .before .before .before .before .before .notes-now in
     let rows = c .before .before .before .before .rows-now in
-    let whole : length (done .last .1 .0) ≡ length (now (a .slots)) = search needs in
-    (ap (λ (o : Outcome). o .answer) (done .ensures), λ world reached keeps.
-      kept world reached (a .before) (now (a .slots)) (now (a .words)) (now (a .places)) keeps (a .call) (now (a .frame))
-      (record { panel = done .result .panel; notes = notes .result; rows = rows .result }) (paperCall (done .result .answer)) (done .last .1 .0) _ _ (feeds .result)
-      (done .ensures) whole (feeds .ensures (now (a .frame))) (notes .ensures world) (rows .ensures))
+    let whole : length (done .last .1 .0) ≡ length (now (a .slots)) = search needs in (
+      ap (λ (o : Outcome). o .answer) (done .ensures),
+      λ world reached keeps.
+          kept world reached (a .before) (now (a .slots)) (now (a .words)) (now (a .places)) keeps (a .call) (now (a .frame))
+          (record { panel = done .result .panel; notes = notes .result; rows = rows .result }) (paperCall (done .result .answer)) (done .last .1 .0) _ _ (feeds .result)
+          (done .ensures) whole (feeds .ensures (now (a .frame))) (notes .ensures world) (rows .ensures),
+    )
 
 pub carry-out-spec : {M : Type 1} → statement M
 carry-out-spec =

@@ -1,14 +1,14 @@
 // Answers in document 01's words.
-use crate::output::byte;
-use crate::output::decimal;
 use crate::output::number;
-use crate::output::text;
 use answers::CallAnswer;
 use answers::Spot;
 use record::CommandAnswer;
 use refusal::Refusal;
 use slot_words::word::point_of;
 use slot_words::word::value_of;
+use text_buffer::byte;
+use text_buffer::decimal;
+use text_buffer::text;
 
 pub(crate) fn answer_text(filled: usize, out: &mut [u8], answer: CallAnswer) -> usize {
     match answer {

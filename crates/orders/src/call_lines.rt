@@ -1,15 +1,15 @@
 // The line that a call prints: its line's number, the call in a normal form, and the answer.
 use crate::answer_texts::answer_text;
 use crate::answer_texts::refused_text;
-use crate::output::byte;
-use crate::output::decimal;
-use crate::output::line_end;
 use crate::output::number;
 use crate::output::room;
-use crate::output::text;
 use answers::CallAnswer;
 use answers::FreshAnswer;
 use history::Call;
+use text_buffer::byte;
+use text_buffer::decimal;
+use text_buffer::line_end;
+use text_buffer::text;
 
 pub(crate) fn call_line(
     filled: usize,

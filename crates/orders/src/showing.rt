@@ -1,15 +1,15 @@
 // `show`: the slots with the plain list beside them, and the reach.
 use crate::answer_texts::reach_text;
 use crate::answer_texts::word_text;
-use crate::output::decimal;
-use crate::output::line_end;
 use crate::output::room;
-use crate::output::text;
 use crate::rows_shown::do_show;
 use crate::rows_shown::is_place;
 use crate::rows_shown::row_at;
 use crate::rows_shown::word_at;
 use refusal::tests::both_hold;
+use text_buffer::decimal;
+use text_buffer::line_end;
+use text_buffer::text;
 
 pub(crate) fn show(
     filled: usize,

@@ -11,9 +11,8 @@ use lib.Dec.{leb}
 use lib.ListN.{length, getD}
 use lib.Seq.{ext-getD}
 use Rattle.slot_words.specs.Word.{pointOf, valueOf}
-use Rattle.answers.specs.Answers.{paperCall}
 use Rattle.answers.proofs.AnswerLaws.{call-tells}
-use Rattle.plain_list.specs.PlainList.{Row, Rows, Told}
+use Rattle.plain_list.specs.PlainList.{Row, Told}
 use Rattle.plain_rows.specs.declared.Fed.{Fed}
 use Rattle.plain_rows.specs.Rows.{rowAt, rowsOf, SameFrom}
 use Rattle.plain_rows.specs.Fed.{Feeds}

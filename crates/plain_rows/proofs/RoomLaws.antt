@@ -5,7 +5,7 @@ use Prim.Native.Nat.{ℕ, zero, suc, _+_, _<_, _≤_}
 use mathlib.Core.Bool.{Bool, true, false, cond, not}
 use mathlib.Core.List.{List, [], _∷_}
 use mathlib.Core.Logic.{_⊎_, inl, inr, _≢_}
-use mathlib.Core.Path.{_≡_, refl, sym, ap, _∙_}
+use mathlib.Core.Path.{_≡_, refl}
 use native.Mathlib.Omega.{arith}
 use borrow.Author.Tests.{not-true}
 use lib.Bits.{bitAnd, bitXor}
@@ -15,7 +15,7 @@ use Rattle.refusal.specs.Judging.{orElse}
 use Rattle.hash.specs.Position.{positionOf}
 use Rattle.hash.proofs.Laws.{position-below}
 use Rattle.slot_words.proofs.TakenLaws.{taken-high, taken-room}
-use Rattle.plain_list.specs.PlainList.{Row, Rows, Entry, absent, present, entryOf, withValue, without, isPlace, lowest, firstFree, addRow, putEntry, putRow, changeEntry, changeRow, removeEntry, removeRow, Operation, nothing, put, change, removal, feed}
+use Rattle.plain_list.specs.PlainList.{Rows, Entry, absent, present, entryOf, without, isPlace, lowest, firstFree, addRow, putEntry, putRow, changeEntry, changeRow, removeEntry, removeRow, Operation, nothing, put, change, removal, feed}
 use Rattle.plain_list.proofs.Agreement.{Agrees}
 use Rattle.plain_list.proofs.RowLaws.{value-length, At, found-place}
 use Rattle.plain_rows.specs.Rows.{rowsOf, Room}

@@ -2,7 +2,7 @@
 -- Assumes nothing.
 use Prim.Native.Nat.{ℕ, zero, suc, _+_, _-_, _<_}
 use mathlib.Core.Bool.{true}
-use mathlib.Core.List.{List, [], _∷_}
+use mathlib.Core.List.{List, _∷_}
 use mathlib.Core.Logic.{_≢_}
 use mathlib.Core.Path.{_≡_, refl, sym, ap, _∙_}
 use native.Mathlib.Numerals.{add-one}
@@ -11,7 +11,7 @@ use borrow.Author.Tests.{eq-eqb, ne-eqb}
 use lib.ListN.{length, getD}
 use Rattle.refusal.specs.Judging.{either}
 use Rattle.slot_words.specs.Word.{pointOf, valueOf}
-use Rattle.plain_list.specs.PlainList.{Row, Rows, present, entryOf, isPlace}
+use Rattle.plain_list.specs.PlainList.{present, entryOf, isPlace}
 use Rattle.plain_list.proofs.RowLaws.{entry-same, entry-other}
 use Rattle.plain_rows.specs.Rows.{rowAt, rowsOf}
 

@@ -1,6 +1,6 @@
 -- Laws of stores to the slices: one row behind the others; a loop that gives a point's rows a value; a loop that moves down the rows of other points.
 -- Assumes nothing.
-use Prim.Native.Nat.{ℕ, _+_, _<_, _≤_}
+use Prim.Native.Nat.{ℕ, _+_, _<_}
 use mathlib.Core.Bool.{Bool, true, false, cond}
 use mathlib.Core.List.{List, _∷_}
 use mathlib.Core.Logic.{_≢_}
@@ -12,7 +12,7 @@ use lib.ListN.{length, getD, set, length-set}
 use lib.Seq.{getD-set-same, getD-set-other}
 use Rattle.slot_words.specs.Word.{pointOf, valueOf, wordOf}
 use Rattle.slot_words.proofs.WordLaws.{word-point, word-value}
-use Rattle.plain_list.specs.PlainList.{Row, Rows, row, withValue, without}
+use Rattle.plain_list.specs.PlainList.{row, withValue, without}
 use Rattle.plain_rows.specs.Rows.{rowAt, rowsOf, SameFrom, Revalues, Removes}
 use Rattle.plain_rows.proofs.RowsLaws.{rows-more, rows-same}
 

@@ -5,7 +5,7 @@ use mathlib.Core.List.{List}
 use mathlib.Core.Path.{_≡_}
 use lib.ListN.{length}
 use Rattle.refusal.specs.Judging.{both}
-use Rattle.answers.specs.Answers.{Answer, refused, paperCall}
+use Rattle.answers.specs.Answers.{refused, paperCall}
 use Rattle.plain_list.specs.PlainList.{Rows, Told, tells, Operation, nothing, put, change, removal, feed}
 use Rattle.plain_rows.specs.declared.Operation.{Operation as OperationFed}
 use Rattle.plain_rows.specs.declared.Operation.the-variants.{Nothing, Put, Change, Removal}
@@ -24,7 +24,7 @@ unfoldable pub ifRoom : Bool → Rows → Told → Told
 ifRoom true rows told = told
 ifRoom false rows told = tells rows (refused 1)
 
--- the slices must have room for the rows before and after
+-- there is room if the slices hold the rows before and after
 unfoldable pub inSlices : List ℕ → List ℕ → ℕ → Told → Told
 inSlices words places count told =
     ifRoom (both (hasRoom words places count) (hasRoom words places (length (told .rows)))) (rowsOf words places count) told
@@ -33,7 +33,7 @@ inSlices words places count told =
 unfoldable pub fedRows : ℕ → ℕ → Operation → List ℕ → List ℕ → ℕ → Told
 fedRows m k operation words places count = inSlices words places count (feed m k operation (rowsOf words places count))
 
--- the slices after the call show what the list was told, and are as before from the new count on
+-- the slices after the call show what the list was told, and from the new count on they are as before
 pub record Feeds (words places words′ places′ : List ℕ) (fed : Fed) (told : Told) : Type 0 where
   pub shown : tells (rowsOf words′ places′ (fed .count)) (paperCall (fed .answer)) ≡ told
   pub words-stay : SameFrom (fed .count) words words′

@@ -15,7 +15,7 @@ use Rattle.plain_rows.specs.declared.rows.Entry.the-variants.{Absent, Pr
 abbrev pub rowAt : List ℕ → List ℕ → ℕ → Row
 rowAt words places i = row (pointOf (getD words i 0)) (valueOf (getD words i 0)) (getD places i 0)
 
--- "The *plain list* has rows": those below the count, the newest first
+-- "The *plain list* has rows", "one is added": those below the count, the newest first
 unfoldable pub rowsOf : List ℕ → List ℕ → ℕ → Rows
 rowsOf words places zero = []
 rowsOf words places (suc i) = rowAt words places i ∷ rowsOf words places i
@@ -39,12 +39,12 @@ pub record SameFrom (n : ℕ) (before after : List ℕ) : Type 0 where
   pub size : length after ≡ length before
   pub rest : (i : ℕ) → n ≤ i → getD after i 0 ≡ getD before i 0
 
--- "the point's row gets the value": so say the first words, whatever the places are
+-- "the point's row gets the value": the words below the count, whatever the places are
 pub record Revalues (words words′ : List ℕ) (count point value : ℕ) : Type 0 where
   pub shown : (places : List ℕ) → rowsOf words′ places count ≡ withValue point value (rowsOf words places count)
   pub words-stay : SameFrom count words words′
 
--- "the row goes": so say the first words and places, as many as rows are left
+-- "the row goes": the rows left are those below their number
 pub record Removes (words places words′ places′ : List ℕ) (count left point : ℕ) : Type 0 where
   pub fewer : left ≤ count
   pub shown : rowsOf words′ places′ left ≡ without point (rowsOf words places count)

@@ -29,13 +29,13 @@ pub(crate) fn first_free(places: &[u32], count: usize, m: u32, k: u32, point: u3
     requires { ⌜ count ≤ length (now places) ⌝ }
     ensures { λ r. ⌜ ((words : List ℕ) → r ≡ firstFree m k point (rowsOf words (now (places .entry)) count)) ⌝ }
 {
-    let mut passed = 0;
-    while passed < k {
-        let index = passed + 1;
+    let mut taken = 0;
+    while taken < k {
+        let index = taken + 1;
         if !is_place(places, count, position(m, point, index)) {
             return index;
         }
-        passed = index;
+        taken = index;
     }
     0
 }

@@ -1,6 +1,6 @@
-// Document 01's plain list as code, kept beside the slots for whoever wants to see what the table must
-// show. Its rows lie in two lent slices: a row's point and value in a word of `words`, its place in the
-// same index of `places`. A new row goes behind the others.
+// Document 01's plain list as code, for a program that keeps it beside the slots and compares the two.
+// The rows lie in two lent slices: a row's point and value in a word of `words`, its place at the same
+// index of `places`. A new row goes behind the others, so that the list reads from the last row down.
 ghost use Rattle.plain_rows.specs.Rows.{Room};
 ghost use Rattle.plain_rows.specs.Fed.{operationOf, fedRows, Feeds};
 
@@ -30,8 +30,9 @@ pub struct Fed {
     pub answer: CallAnswer,
 }
 
-// Feeds the list of `count` rows an operation, in a table of m slots and k functions. Where a slice is
-// too short for the rows before or after, nothing is altered and the answer is refusal 1.
+// Feeds an operation to the list of `count` rows, for a table of m slots and k functions. If a slice is
+// too short for the rows before or after, nothing is altered and the answer is refusal 1. A table's own
+// list never has more than m rows, so slices of m entries are long enough (proofs/RoomLaws.antt).
 pub fn feed(
     words: &mut [u64],
     places: &mut [u32],
@@ -48,7 +49,7 @@ pub fn feed(
     misfit(count)
 }
 
-// The same where the slices hold the rows.
+// The same for slices that hold the rows.
 fn feed_rows(
     words: &mut [u64],
     places: &mut [u32],

@@ -1,4 +1,5 @@
-// What each operation makes of the rows, and what the list answers. The slices hold the rows.
+// What each operation makes of the rows, and what the list answers. The caller has judged that the
+// slices hold the rows.
 ghost use mathlib.Core.Path.{_≡_};
 ghost use Rattle.answers.specs.Answers.{Answer, refused, endedWith, paperCall};
 ghost use Rattle.plain_list.specs.PlainList.{indexOf, addRow, putRow, changeRow, removeRow};
@@ -39,7 +40,7 @@ fn unknown(count: usize) -> Fed
     }
 }
 
-// The point has a row at the place: so many rows, and the place with its index.
+// The point has its row at the place: `count` rows now, and the place with its index.
 fn placed(count: usize, m: u32, k: u32, point: u32, place: u32) -> Fed
     ensures { λ r. ⌜ (r .count ≡ count) × (paperCall (r .answer) ≡ Answer.placed place (indexOf m k point place)) ⌝ }
 {
@@ -76,7 +77,7 @@ pub(crate) fn put_row(
     }
 }
 
-// A row behind the others, at the point's position of that index; 0 means that none is free.
+// Adds the row, at the point's position of that index; index 0 means that no position is free.
 fn add_row(
     words: &mut [u64],
     places: &mut [u32],

@@ -26,7 +26,7 @@ pub(crate) fn has_room(words: &[u64], places: &[u32], count: usize) -> bool
     both_hold(count <= words.len(), count <= places.len())
 }
 
-// The point's row: of several the newest, since the list is read from its newest row on.
+// The point's row. If the slices have several, the newest, which comes first in the list.
 pub(crate) fn entry_of(words: &[u64], places: &[u32], count: usize, point: u32) -> Entry
     requires { ⌜ Room (now words) (now places) count ⌝ }
     ensures { λ r. ⌜ entryRead r ≡ entryOf point (rowsOf (now (words .entry)) (now (places .entry)) count) ⌝ }
@@ -45,7 +45,7 @@ pub(crate) fn entry_of(words: &[u64], places: &[u32], count: usize, point: u32) 
     Entry::Absent
 }
 
-// Some row's place.
+// Whether the place is some row's.
 pub(crate) fn is_place(places: &[u32], count: usize, place: u32) -> bool
     requires { ⌜ count ≤ length (now places) ⌝ }
     ensures { λ r. ⌜ ((words : List ℕ) → r ≡ isPlace place (rowsOf words (now (places .entry)) count)) ⌝ }
@@ -60,7 +60,7 @@ pub(crate) fn is_place(places: &[u32], count: usize, place: u32) -> bool
     false
 }
 
-// The point's rows get the value.
+// The point's rows get the value: all of them, since nothing is required of the slices.
 pub(crate) fn with_value(words: &mut [u64], count: usize, point: u32, value: u32)
     requires { ⌜ count ≤ length (now words) ⌝ }
     ensures { λ _. ⌜ Revalues (now (words .entry)) (now (words .exit)) count point value ⌝ }
@@ -82,7 +82,8 @@ fn revalued(word: u64, point: u32, value: u32) -> u64
     word
 }
 
-// The point's rows go, and those behind move down. How many are left.
+// The point's rows go, and those behind move down in their order. Gives the number of rows left. It
+// stores below that number only, so that nothing is left open from there on.
 pub(crate) fn without(words: &mut [u64], places: &mut [u32], count: usize, point: u32) -> usize
     requires { ⌜ Room (now words) (now places) count ⌝ }
     ensures { λ r. ⌜ Removes (now (words .entry)) (now (places .entry)) (now (words .exit)) (now (places .exit)) count r point ⌝ }

@@ -1,7 +1,6 @@
 -- `plain_rows::feed` meets its contract, by whether the slices hold the rows.
 -- Assumes nothing.
 use mathlib.Core.Path.{_∙_, sym}
-use borrow.Author.Tests.{not-true, not-false}
 use borrow.Author.Needs.{needs}
 use denote.Ref.{now}
 use Rattle.refusal.specs.Judging.{both}

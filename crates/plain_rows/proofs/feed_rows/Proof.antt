@@ -1,11 +1,11 @@
 -- `plain_rows::feed_rows` meets its contract, operation by operation.
 -- Assumes nothing.
-use mathlib.Core.Path.{_∙_, refl, sym, ap}
+use mathlib.Core.Path.{refl}
 use borrow.Author.Needs.{needs}
 use denote.Ref.{now}
 use Rattle.answers.specs.Answers.{refused}
 use Rattle.plain_list.specs.PlainList.{feed}
-use Rattle.plain_rows.specs.Fed.{operationOf, fedRows}
+use Rattle.plain_rows.specs.Fed.{fedRows}
 use Rattle.plain_rows.proofs.FedLaws.{feeds-nothing}
 use Rattle.plain_rows.proofs.feed_rows.Statement.{statement}
 use Rattle.plain_rows.proofs.feed_rows.Tie as tie

@@ -1,4 +1,4 @@
--- `plain_rows::indices::first_free` meets its contract: each position passed is some row's place.
+-- `plain_rows::indices::first_free` meets its contract: each position up to the loop's is some row's place.
 -- Assumes nothing.
 use Prim.Native.Nat.{ℕ, _+_, _-_, _≤_, _<_}
 use mathlib.Core.Bool.{true}
@@ -17,11 +17,11 @@ use Rattle.plain_rows.proofs.indices.first_free.Statement.{statement}
 use Rattle.plain_rows.proofs.indices.first_free.Tie as tie
 
 abbrev Inv-loop : tie.InvT-loop
-Inv-loop places count m k point passed₀ passed =
-    (passed ≤ k) × ((i : ℕ) → i < passed + 1 → 1 ≤ i → (words : List ℕ) → isPlace (positionOf m point i) (rowsOf words places count) ≡ true)
+Inv-loop places count m k point taken₀ taken =
+    (taken ≤ k) × ((i : ℕ) → i < taken + 1 → 1 ≤ i → (words : List ℕ) → isPlace (positionOf m point i) (rowsOf words places count) ≡ true)
 
 abbrev μ-loop : tie.MeasureT-loop
-μ-loop places count m k point passed₀ passed = k - passed
+μ-loop places count m k point taken₀ taken = k - taken
 
 loop-holds : tie.Need-loop-holds Inv-loop μ-loop
 loop-holds c = (omega arith, λ i h l words. absurd (omega arith))
@@ -41,7 +41,7 @@ returns c =
     let a = c .before .before .before .before .before .before .args in
     λ words.
     sym
-    (free-is (a .m) (a .k) (a .point) (l .passed + 1) (rowsOf words (now (a .places)) (a .count)) (omega arith) (omega arith)
+    (free-is (a .m) (a .k) (a .point) (l .taken + 1) (rowsOf words (now (a .places)) (a .count)) (omega arith) (omega arith)
     (ap (λ (place : ℕ). isPlace place (rowsOf words (now (a .places)) (a .count))) (sym (c .before .before .position .ensures)) ∙ sym (c .before .is-place .ensures words) ∙ not-true _ (c .if1 .taken))
     (λ i low below. l .inv .1 i below low words))
 

@@ -5,8 +5,8 @@ use native.Mathlib.Omega.{arith}
 use borrow.Author.Tests.{not-true, not-false}
 use borrow.Author.Needs.{needs}
 use denote.Ref.{now}
-use Rattle.answers.specs.Answers.{endedWith}
-use Rattle.plain_list.specs.PlainList.{addRow}
+use Rattle.answers.specs.Answers.{placed, endedWith}
+use Rattle.plain_list.specs.PlainList.{indexOf, addRow}
 use Rattle.plain_rows.specs.Rows.{rowsOf}
 use Rattle.plain_rows.proofs.FedLaws.{row-room, feeds-nothing, feeds-row, misfits-row, row-added}
 use Rattle.plain_rows.proofs.operations.add_row.Statement.{statement}
@@ -15,8 +15,9 @@ use Rattle.plain_rows.proofs.operations.add_row.Tie as tie
 returns : tie.Need-returns
 unfolding addRow
 returns c =
-    let a = c .before .before .before .args in
-    feeds-nothing (now (a .words)) (now (a .places)) (a .count) (c .before .before .before .pre) _ _ (endedWith 6) refl refl (rw (c .if1 .taken))
+    let start = c .before .before .before in
+    let a = start .args in
+    feeds-nothing (now (a .words)) (now (a .places)) (a .count) (start .pre) _ _ (endedWith 6) refl refl (rw (c .if1 .taken))
 
 both-hold-requires : tie.Need-both-hold-requires
 both-hold-requires c κs = search needs
@@ -28,7 +29,8 @@ returns-2 : tie.Need-returns-2
 returns-2 c =
     let a = c .before .before .before .before .before .before .args in
     let none = sym (c .before .before .both-hold .ensures) ∙ not-true _ (c .before .if2 .taken) in
-    misfits-row (now (a .words)) (now (a .places)) (a .count) (c .misfit .result) _ _ _ none (row-added (a .m) (a .k) (a .point) (a .value) (a .index) _ _ (c .before .before .before .if1 .left) refl) (c .misfit .ensures .0) (c .misfit .ensures .1)
+    let told = row-added (a .m) (a .k) (a .point) (a .value) (a .index) _ _ (c .before .before .before .if1 .left) refl in
+    misfits-row (now (a .words)) (now (a .places)) (a .count) (c .misfit .result) _ _ _ none told (c .misfit .ensures .0) (c .misfit .ensures .1)
 
 position-requires : tie.Need-position-requires
 position-requires c κs = search needs
@@ -68,11 +70,16 @@ same-length-2 c = search needs
 
 returns-3 : tie.Need-returns-3
 returns-3 c =
-    let a = c .before .before .before .before .before .before .before .before .args in
+    let start = c .before .before .before .before .before .before .before .before in
+    let a = start .args in
     let room = row-room (now (a .words)) (now (a .places)) (a .count) (sym (c .before .before .before .before .both-hold .ensures) ∙ not-false _ (c .before .before .before .if2 .left)) in
-    let told = row-added (a .m) (a .k) (a .point) (a .value) (a .index) (c .before .before .position .result) (rowsOf (now (a .words)) (now (a .places)) (a .count)) (c .before .before .before .before .before .if1 .left) (c .before .before .position .ensures) in
+    let place = c .before .before .position .result in
+    let rows = rowsOf (now (a .words)) (now (a .places)) (a .count) in
+    let told = row-added (a .m) (a .k) (a .point) (a .value) (a .index) place rows (c .before .before .before .before .before .if1 .left) (c .before .before .position .ensures) in
+    let added = addRow (a .m) (a .k) (a .point) (a .value) rows (a .index) in
+    let answer = placed place (indexOf (a .m) (a .k) (a .point) place) in
     rw (c .before .word-of .ensures)
-    (feeds-row (now (a .words)) (now (a .places)) (a .count) (c .before .before .before .before .before .before .before .before .pre) (c .placed .result) _ (a .point) (a .value) (c .before .before .position .result) _ (omega arith) room (c .placed .ensures .0) (c .placed .ensures .1) told)
+    (feeds-row (now (a .words)) (now (a .places)) (a .count) (start .pre) (c .placed .result) added (a .point) (a .value) place answer (omega arith) room (c .placed .ensures .0) (c .placed .ensures .1) told)
 
 pub add-row-spec : {M : Type 1} → statement M
 add-row-spec =

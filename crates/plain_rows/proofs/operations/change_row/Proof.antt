@@ -1,11 +1,12 @@
 -- `plain_rows::operations::change_row` meets its contract, by whether the point has a row.
 -- Assumes nothing.
-use mathlib.Core.Path.{_∙_, refl, sym, ap}
+use mathlib.Core.Path.{_≡_, _∙_, refl, sym, ap}
 use borrow.Author.Needs.{needs}
 use denote.Ref.{now}
-use Rattle.answers.specs.Answers.{endedWith}
-use Rattle.plain_list.specs.PlainList.{changeEntry, changeRow}
-use Rattle.plain_rows.specs.Rows.{entryRead}
+use lib.Bits.{bitAnd, bitXor}
+use Rattle.answers.specs.Answers.{changed, endedWith}
+use Rattle.plain_list.specs.PlainList.{absent, present, entryOf, withValue, tells, changeEntry, changeRow}
+use Rattle.plain_rows.specs.Rows.{rowsOf, entryRead}
 use Rattle.plain_rows.proofs.FedLaws.{feeds-nothing, feeds-value}
 use Rattle.plain_rows.proofs.operations.change_row.Statement.{statement}
 use Rattle.plain_rows.proofs.operations.change_row.Tie as tie
@@ -34,9 +35,13 @@ same-length-2 c = search needs
 returns : tie.Need-returns
 unfolding changeRow changeEntry
 returns c =
-    let a = c .before .before .before .before .before .before .before .before .args in
-    let none = sym (c .before .before .before .entry-of .ensures) ∙ ap entryRead (c .before .enum-told .given .1) in
-    feeds-nothing (now (a .words)) (now (a .places)) (a .count) (c .before .before .before .before .before .before .before .before .pre) (c .unknown .result) _ (endedWith 7) (c .unknown .ensures .0) (c .unknown .ensures .1) (rw none)
+    let start = c .before .before .before .before .before .before .before .before in
+    let a = start .args in
+    let rows = rowsOf (now (a .words)) (now (a .places)) (a .count) in
+    let searched = c .before .before .before .entry-of in
+    let entry : entryRead (searched .result) ≡ entryOf (a .point) rows = searched .ensures in
+    let none : entryOf (a .point) rows ≡ absent = sym entry ∙ ap entryRead (c .before .enum-told .given .1) in
+    feeds-nothing (now (a .words)) (now (a .places)) (a .count) (start .pre) (c .unknown .result) _ (endedWith 7) (c .unknown .ensures .0) (c .unknown .ensures .1) (rw none)
 
 same-length-3 : tie.Need-same-length-3
 same-length-3 c = search needs
@@ -47,9 +52,17 @@ same-length-4 c = search needs
 returns-2 : tie.Need-returns-2
 unfolding changeRow changeEntry
 returns-2 c =
-    let a = c .before .before .before .before .before .before .before .before .before .before .before .before .args in
-    let some = sym (c .before .before .before .before .before .before .before .entry-of .ensures) ∙ ap entryRead (c .before .before .before .before .before .value .given .1) in
-    feeds-value (now (a .words)) (now (a .places)) (a .count) (c .before .before .before .before .before .before .before .before .before .before .before .before .pre) _ _ (c .before .before .with-value .last .0) (a .point) _ _ (c .before .before .with-value .ensures) refl refl (rw some)
+    let start = c .before .before .before .before .before .before .before .before .before .before .before .before in
+    let a = start .args in
+    let rows = rowsOf (now (a .words)) (now (a .places)) (a .count) in
+    let found = c .before .before .before .before .before .value .given in
+    let searched = c .before .before .before .before .before .before .before .entry-of in
+    let entry : entryRead (searched .result) ≡ entryOf (a .point) rows = searched .ensures in
+    let some : entryOf (a .point) rows ≡ present (found .0 .0) (found .0 .1 .0) = sym entry ∙ ap entryRead (found .1) in
+    let new = bitXor (bitAnd (found .0 .0) (a .keep)) (a .flip) in
+    let told : changeRow (a .point) (a .keep) (a .flip) rows ≡ tells (withValue (a .point) new rows) (changed new) = rw some in
+    let stored = c .before .before .with-value in
+    feeds-value (now (a .words)) (now (a .places)) (a .count) (start .pre) _ _ (stored .last .0) (a .point) new (changed new) (stored .ensures) refl refl told
 
 pub change-row-spec : {M : Type 1} → statement M
 change-row-spec =

@@ -54,7 +54,13 @@ fn run_program(
     out: &mut [u8],
 ) {
     let mut line = [0u8; 256];
-    let begun = Progress {
+    let ended = run_input(begin(), slots, words, places, bytes, &mut line, out);
+    finish(ended, slots, words, places, &line, out);
+}
+
+// No panel, and no line.
+fn begin() -> Progress {
+    Progress {
         run: Run {
             session: opened(fresh_record(0, 0)),
             has_panel: false,
@@ -62,9 +68,7 @@ fn run_program(
             filled: 0,
         },
         length: 0,
-    };
-    let ended = run_input(begun, slots, words, places, bytes, &mut line, out);
-    finish(ended, slots, words, places, &line, out);
+    }
 }
 
 // The run so far, and how many bytes the line has of which only a part was read.

@@ -11,6 +11,7 @@ mod bench_line;
 mod bench_protocol;
 mod bench_workload;
 mod child_program;
+mod comparison;
 mod direct_table;
 mod point_table;
 mod random;
@@ -26,17 +27,14 @@ mod reference_table;
 
 use bench_cases::{feed, Case};
 use bench_histories::History;
+use comparison::Comparison;
 use direct_table::DirectTable;
 use plain_list::PlainList;
 use random::Random;
-use std::path::Path;
 use std::process::ExitCode;
 
 const GARBAGE: usize = 600;
 const HISTORIES: usize = 1500;
-
-/// The differences that are printed one by one.
-const SHOWN: u64 = 10;
 
 /// Document 01's example.
 const EXAMPLE: &str = "8 4\nP 1 5\nP 9 6\nP 17 7\nL 17\nR 9\nL 9\n";
@@ -61,65 +59,11 @@ const LARGER: [[u32; 4]; 6] = [
     [1, 64, 3, 1000],
 ];
 
-struct Comparison {
-    program: String,
-    inputs: u64,
-    differences: u64,
-}
-
-impl Comparison {
-    fn compare(&mut self, input: &[u8]) -> Result<(), String> {
-        let expected = reference(input);
-        let printed = child_program::run(&self.program, input).map_err(|error| {
-            let input = start_of(input);
-            format!("{}: {error}, with the input \"{input}\"", self.program)
-        })?;
-        self.inputs += 1;
-        if printed != expected {
-            self.differences += 1;
-            if self.differences <= SHOWN {
-                show(input, &printed, &expected);
-            }
-        }
-        Ok(())
-    }
-}
-
 /// What the reference prints.
 fn reference(input: &[u8]) -> Vec<u8> {
     let mut output = Vec::new();
     bench_protocol::run::<DirectTable>(input, &mut output).expect("a vector takes every byte");
     output
-}
-
-/// The first line in which the two outputs differ.
-fn show(input: &[u8], printed: &[u8], expected: &[u8]) {
-    let mut expected = expected.split_inclusive(|&byte| byte == b'\n');
-    let mut printed = printed.split_inclusive(|&byte| byte == b'\n');
-    let mut number = 0;
-    let (printed, expected) = loop {
-        number += 1;
-        match (printed.next(), expected.next()) {
-            (Some(line), Some(other)) if line == other => {}
-            lines => break lines,
-        }
-    };
-    println!("the input \"{}\"", start_of(input));
-    println!(
-        "  program   line {number} \"{}\"",
-        start_of(printed.unwrap_or_default())
-    );
-    println!(
-        "  reference line {number} \"{}\"",
-        start_of(expected.unwrap_or_default())
-    );
-}
-
-/// What can be shown of bytes on a line.
-fn start_of(bytes: &[u8]) -> String {
-    let start = &bytes[..bytes.len().min(300)];
-    let more = if start.len() < bytes.len() { ".." } else { "" };
-    format!("{}{more}", start.escape_ascii())
 }
 
 /// Small histories; gives the cases that never occurred.
@@ -162,15 +106,7 @@ fn run() -> Result<(), String> {
     if reference(EXAMPLE.as_bytes()) != EXAMPLE_PRINTED.as_bytes() {
         return Err("the reference does not print document 01's example".to_string());
     }
-    let program = std::env::args().nth(1).ok_or("no program is given")?;
-    if !Path::new(&program).is_file() {
-        return Err(format!("there is no program {program}"));
-    }
-    let mut comparison = Comparison {
-        program,
-        inputs: 0,
-        differences: 0,
-    };
+    let mut comparison = Comparison::new(reference)?;
     let missing = compare_all(&mut comparison)?;
     println!(
         "bench_compare: {} inputs compared, {} differences",

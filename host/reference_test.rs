@@ -5,6 +5,8 @@
 mod bench_commands;
 mod bench_histories;
 mod direct_table;
+mod drawn_commands;
+mod plain_feeding;
 mod plain_list;
 mod point_table;
 mod reference_command;
@@ -29,11 +31,9 @@ mod random;
 #[allow(dead_code)]
 mod reference_table;
 
+use plain_feeding::Answer;
 use reference_table::Refusal;
 use reference_writer::WriterStep;
-
-/// What an operation hands back, with 0 for a second number that it lacks, or the refusal.
-type Answer = Result<(u32, u32), u32>;
 
 /// What a writer's operation ended with; none if it is underway.
 fn answer_of(step: Result<WriterStep, Refusal>) -> Option<Answer> {

@@ -1,65 +1,17 @@
-//! Commands of a history, and what is noted of them against document 01's claim: each acts at most
-//! once, and an answer given again is the one that its change gave.
+//! What is noted of a history's commands, against document 01's claim: each acts at most once, and
+//! an answer given again is the one that its change gave.
 
-use crate::random::Random;
+use crate::drawn_commands::Sent;
+use crate::plain_feeding::Answer;
 use crate::reference_command::Entry;
-use crate::reference_frame::{write, Fields};
 use crate::reference_record::{Record, Station, Writer};
-use crate::Answer;
 use std::collections::{HashMap, HashSet};
-
-/// So few that each sends many commands.
-const LAST_STATION: u32 = 3;
 
 /// A station and its command's number.
 type Number = (u32, u32);
 
-#[derive(Clone, Copy, Debug, PartialEq, Eq)]
-pub struct Sent {
-    pub station: u32,
-    pub number: u32,
-    pub point: u32,
-    pub action: u32,
-}
-
-impl Sent {
-    /// The station's next command, its last one again, or another number or content.
-    pub fn draw(record: &Record, last_point: u32, random: &mut Random) -> Self {
-        let station = random.within(1, LAST_STATION);
-        let last = record.stations[station as usize - 1];
-        let new_point = random.within(1, last_point);
-        let new_action = random.within(0, 2);
-        let (number, point, action) = match random.within(0, 7) {
-            0 | 1 if last.number > 0 => (last.number, last.point, last.action),
-            2 if last.number > 0 => (last.number, new_point, new_action),
-            3 => (random.within(1, last.number + 3), new_point, new_action),
-            _ => (last.number + 1, new_point, new_action),
-        };
-        Sent {
-            station,
-            number,
-            point,
-            action,
-        }
-    }
-
-    pub fn frame(&self) -> [u8; 10] {
-        let mut bytes = [0; 10];
-        let fields = Fields {
-            map: 0x0F,
-            station: self.station,
-            number: self.number,
-            point: self.point,
-            action: self.action,
-            ..Fields::default()
-        };
-        assert_eq!(write(&mut bytes, &fields), Ok(10));
-        bytes
-    }
-
-    fn identity(&self) -> Number {
-        (self.station, self.number)
-    }
+fn identity(sent: &Sent) -> Number {
+    (sent.station, sent.number)
 }
 
 #[derive(Default)]
@@ -76,7 +28,7 @@ impl Notes {
     /// What the entry answered to a command that arrived while the writer had this work.
     pub fn answered(&mut self, sent: Sent, answer: Result<Entry, u32>, work: Writer) {
         let last = self.last_number(sent.station);
-        let expected = match self.ended.get(&sent.identity()) {
+        let expected = match self.ended.get(&identity(&sent)) {
             Some(&(same, stored)) if same == sent && sent.number == last => {
                 Ok(Entry::GivenAgain(stored))
             }
@@ -99,7 +51,7 @@ impl Notes {
     /// The writer has stored a slot.
     pub fn slot_stored(&mut self) {
         if let Some(sent) = self.underway {
-            let is_first = self.acted.insert(sent.identity());
+            let is_first = self.acted.insert(identity(&sent));
             assert!(is_first, "{sent:?} acted twice");
         }
     }
@@ -110,8 +62,8 @@ impl Notes {
             return;
         };
         let value = answer.ok().map(|(value, _)| value);
-        assert_eq!(self.acted.contains(&sent.identity()), value.is_some());
-        let before = self.ended.insert(sent.identity(), (sent, value));
+        assert_eq!(self.acted.contains(&identity(&sent)), value.is_some());
+        let before = self.ended.insert(identity(&sent), (sent, value));
         assert_eq!(before, None, "{sent:?} ended twice");
         let kept = Station {
             number: sent.number,

@@ -1,12 +1,12 @@
 //! The command entry call by call: its refusals in document 01's order, and a station's commands one
 //! behind the other.
 
+use crate::drawn_commands::Sent;
 use crate::reference_command::{start_command, Entry};
 use crate::reference_operations::{finish, put};
 use crate::reference_record::Record;
 use crate::reference_table::fresh;
 use crate::reference_writer::{start_put, WriterStep};
-use crate::test_commands::Sent;
 
 const STARTED: Result<Entry, u32> = Ok(Entry::Started);
 

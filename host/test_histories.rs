@@ -4,12 +4,12 @@
 use crate::bench_histories::History;
 use crate::bench_line::Command;
 use crate::direct_table::DirectTable;
+use crate::plain_feeding::Answer;
 use crate::plain_list::PlainList;
 use crate::point_table::PointTable;
 use crate::random::Random;
 use crate::reference_record::is_point;
 use crate::step_table::StepTable;
-use crate::Answer;
 
 const HISTORIES: u32 = 2000;
 

@@ -2,14 +2,16 @@
 //! about every list of calls, as far as lookups, commands and the writer go, and the bounds on
 //! steps.
 
+use crate::answer_of;
+use crate::drawn_commands::Sent;
+use crate::plain_feeding::{feed, stores_slot, Answer};
 use crate::plain_list::PlainList;
 use crate::random::Random;
 use crate::reference_command;
-use crate::reference_record::{ChangeStage, PutStage, Reader, Record, RemovalStage, Writer};
+use crate::reference_record::{Reader, Record, Writer};
 use crate::reference_table::{fresh, start_lookup, step_reader, Refusal, Step};
-use crate::reference_writer::{masks, start_change, start_put, start_removal, step_writer};
-use crate::test_commands::{Notes, Sent};
-use crate::{answer_of, Answer};
+use crate::reference_writer::{start_change, start_put, start_removal, step_writer};
+use crate::test_commands::Notes;
 
 const PANELS: u32 = 1500;
 const CALLS: u32 = 400;
@@ -156,20 +158,6 @@ impl World {
     }
 }
 
-/// Whether the writer's next step stores a slot.
-fn stores_slot(record: &Record) -> bool {
-    match record.writer {
-        Writer::Idle => false,
-        Writer::Putting { stage, .. } => match stage {
-            PutStage::Searching(_) | PutStage::Scanning(_) => false,
-            PutStage::Found(_) => true,
-            PutStage::Chosen(index) => index <= record.reach,
-        },
-        Writer::Changing { stage, .. } => matches!(stage, ChangeStage::Found(_)),
-        Writer::Removing { stage, .. } => matches!(stage, RemovalStage::Found(_)),
-    }
-}
-
 /// The most steps that the writer's operation may take.
 fn bound(record: &Record) -> u32 {
     match record.writer {
@@ -177,23 +165,5 @@ fn bound(record: &Record) -> u32 {
         Writer::Putting { .. } => 2 * record.k + 2,
         Writer::Changing { .. } => record.k + 2,
         Writer::Removing { .. } => record.k + 3,
-    }
-}
-
-fn feed(list: &mut PlainList, work: Writer) -> Answer {
-    match work {
-        Writer::Idle => panic!("nothing to feed"),
-        Writer::Putting { point, value, .. } => list.put(point, value).ok_or(6),
-        Writer::Changing {
-            point, alteration, ..
-        } => {
-            let (keep, flip) = masks(alteration);
-            let value = list.change(point, keep, flip);
-            value.map(|value| (value, 0)).ok_or(7)
-        }
-        Writer::Removing { point, .. } => {
-            let reach = list.remove(point);
-            reach.map(|reach| (reach, 0)).ok_or(7)
-        }
     }
 }

@@ -85,7 +85,7 @@ fn run_panel(panel: Record, slots: &mut [u64], bytes: &mut [u8], text: &mut [u8]
 
 // "A first line that is missing, unreadable or refused prints "panel ! 1" and ends the run".
 fn refuse(text: &mut [u8]) {
-    let filled = output::line_end(output::text(0, text, b"panel ! 1"), text);
+    let filled = text_buffer::line_end(text_buffer::text(0, text, b"panel ! 1"), text);
     output::flush(filled, text);
 }
 

@@ -1,10 +1,10 @@
 // The printed lines. Each function gives how much of the buffer is in use.
-use crate::output::line_end;
-use crate::output::number;
-use crate::output::text;
 use answers::ReaderAnswer;
 use answers::WriterAnswer;
 use refusal::Refusal;
+use text_buffer::line_end;
+use text_buffer::number;
+use text_buffer::text;
 
 pub(crate) fn panel(filled: usize, out: &mut [u8], m: u32, k: u32) -> usize {
     let named = text(filled, out, b"panel");

@@ -26,7 +26,7 @@ use search::search_advance;
 use slot_words::word::word_of;
 
 // Action 0 clears bit 0, 1 sets it, 2 toggles it.
-fn action_masks(action: u32) -> Masks
+pub fn action_masks(action: u32) -> Masks
     ensures { λ r. ⌜ r ≡ actionMasks action ⌝ }
 {
     match action {

@@ -50,3 +50,7 @@ holds m k world (request ∷ rest) inv fit =
 -- "Demand 3 is a single claim, for every m and k in range, about every whole list of these calls with any arguments"
 pub demand-3 : Demand3
 demand-3 m k m-low m-high k-low k-high requests fit = holds m k (freshWorld m k) requests (fresh-inv m k m-low m-high k-low k-high) fit
+
+-- a call keeps the invariant: for whoever goes along a list of calls
+pub call-keeps : (m k : ℕ) (world : World) (request : Request) → Inv m k world → ArgumentsFit (request .call) → Inv m k (next world request)
+call-keeps m k world request inv fit = next-kept m k world request inv fit .inv

@@ -1,0 +1,21 @@
+-- `orders::kept_list::begun` meets its contract, by whether the operation was started.
+-- Assumes nothing.
+use mathlib.Core.Path.{sym, refl, _∙_}
+use Rattle.history.specs.World.{begunWriter}
+use borrow.Author.Needs.{needs}
+use Rattle.orders.proofs.kept_list.begun.Statement.{statement}
+use Rattle.orders.proofs.kept_list.begun.Tie as tie
+
+is-started-requires : tie.Need-is-started-requires
+is-started-requires c κs = search needs
+
+returns : tie.Need-returns
+unfolding begunWriter
+returns c writer asked command kept given =
+    let s = sym (c .before .is-started .ensures) ∙ c .if1 .taken in rw s (record { asked = given s; fed = refl })
+
+returns-2 : tie.Need-returns-2
+returns-2 c writer asked command kept given = rw (sym (c .before .is-started .ensures) ∙ c .if1 .left) kept
+
+pub begun-spec : {M : Type 1} → statement M
+begun-spec = tie.close (tie.spec is-started-requires returns returns-2)

@@ -1,0 +1,135 @@
+-- `orders::kept_list::notes_now` meets its contract, call by call.
+-- Assumes nothing.
+use mathlib.Core.Bool.{Bool}
+use mathlib.Core.Path.{refl, sym, ap, subst, _∙_}
+use denote.Ref.{now}
+use Rattle.answers.specs.Answers.{paperCall}
+use Rattle.history.specs.declared.Call.{Call}
+use Rattle.history.specs.World.{roleOf, feedsNow, toldNow, steppedWriter, writerNow}
+use Rattle.orders.specs.Kept.{NotesKept}
+use Rattle.orders.proofs.KeptLaws.{stepped-kept}
+use borrow.Author.Needs.{needs}
+use Rattle.orders.proofs.kept_list.notes_now.Statement.{statement}
+use Rattle.orders.proofs.kept_list.notes_now.Tie as tie
+
+enum-told : tie.Need-enum-told
+enum-told c = search needs
+
+enum-told-2 : tie.Need-enum-told-2
+enum-told-2 c = search needs
+
+enum-told-3 : tie.Need-enum-told-3
+enum-told-3 c = search needs
+
+enum-known-call : tie.Need-enum-known-call
+enum-known-call c = search needs
+
+begun-requires : tie.Need-begun-requires
+begun-requires c κs = search needs
+
+enum-known-call-2 : tie.Need-enum-known-call-2
+enum-known-call-2 c = search needs
+
+begun-requires-2 : tie.Need-begun-requires-2
+begun-requires-2 c κs = search needs
+
+enum-known-call-3 : tie.Need-enum-known-call-3
+enum-known-call-3 c = search needs
+
+begun-requires-3 : tie.Need-begun-requires-3
+begun-requires-3 c κs = search needs
+
+enum-told-4 : tie.Need-enum-told-4
+enum-told-4 c = search needs
+
+commanded-requires : tie.Need-commanded-requires
+commanded-requires c κs = search needs
+
+begun-requires-4 : tie.Need-begun-requires-4
+begun-requires-4 c κs = search needs
+
+enum-told-5 : tie.Need-enum-told-5
+enum-told-5 c = search needs
+
+stepped-requires : tie.Need-stepped-requires
+stepped-requires c κs = search needs
+
+returns : tie.Need-returns
+unfolding writerNow roleOf
+returns c world kept feeding framed =
+    let a = c .before .before .before .args in
+    subst (λ (x : Call). NotesKept (a .notes) (writerNow world (paperCall (a .answer)) (roleOf x (now (a .frame))))) (sym (c .enum-told .given .1)) kept
+
+returns-2 : tie.Need-returns-2
+unfolding writerNow roleOf
+returns-2 c world kept feeding framed =
+    let a = c .before .before .before .args in
+    subst (λ (x : Call). NotesKept (a .notes) (writerNow world (paperCall (a .answer)) (roleOf x (now (a .frame))))) (sym (c .enum-told2 .given .1)) kept
+
+returns-3 : tie.Need-returns-3
+unfolding writerNow roleOf
+returns-3 c world kept feeding framed =
+    let a = c .before .before .before .args in
+    subst (λ (x : Call). NotesKept (a .notes) (writerNow world (paperCall (a .answer)) (roleOf x (now (a .frame))))) (sym (c .enum-told3 .given .1)) kept
+
+returns-4 : tie.Need-returns-4
+unfolding writerNow roleOf
+returns-4 c world kept feeding framed =
+    let a = c .before .before .before .before .before .args in
+    subst (λ (x : Call). NotesKept (c .begun .result) (writerNow world (paperCall (a .answer)) (roleOf x (now (a .frame))))) (sym (c .before .before .call .given .1)) (c .begun .ensures (world .writer) _ _ kept (λ s. refl))
+
+returns-5 : tie.Need-returns-5
+unfolding writerNow roleOf
+returns-5 c world kept feeding framed =
+    let a = c .before .before .before .before .before .args in
+    subst (λ (x : Call). NotesKept (c .begun2 .result) (writerNow world (paperCall (a .answer)) (roleOf x (now (a .frame))))) (sym (c .before .before .call2 .given .1)) (c .begun2 .ensures (world .writer) _ _ kept (λ s. refl))
+
+returns-6 : tie.Need-returns-6
+unfolding writerNow roleOf
+returns-6 c world kept feeding framed =
+    let a = c .before .before .before .before .before .args in
+    subst (λ (x : Call). NotesKept (c .begun3 .result) (writerNow world (paperCall (a .answer)) (roleOf x (now (a .frame))))) (sym (c .before .before .call3 .given .1)) (c .begun3 .ensures (world .writer) _ _ kept (λ s. refl))
+
+returns-7 : tie.Need-returns-7
+unfolding writerNow roleOf
+returns-7 c world kept feeding framed =
+    let a = c .before .before .before .before .before .args in
+    let e = c .before .before .enum-told4 .given .1 in
+    subst (λ (x : Call). NotesKept (c .begun4 .result) (writerNow world (paperCall (a .answer)) (roleOf x (now (a .frame))))) (sym e) (c .begun4 .ensures (world .writer) _ _ kept (λ s. c .before .commanded .ensures (framed e s)))
+
+returns-8 : tie.Need-returns-8
+unfolding roleOf
+returns-8 c world kept feeding framed =
+    let a = c .before .before .before .before .args in
+    let e = c .before .enum-told5 .given .1 in
+    let feeds = feeding ∙ ap (λ (x : Call). feedsNow world (paperCall (a .answer)) (roleOf x (now (a .frame)))) e in
+    subst (λ (x : Call). NotesKept (c .stepped .result) (writerNow world (paperCall (a .answer)) (roleOf x (now (a .frame))))) (sym e)
+    (stepped-kept world (paperCall (a .answer)) (c .stepped .result)
+    (subst (λ (b : Bool). NotesKept (c .stepped .result) (steppedWriter (world .writer) b (toldNow world))) feeds (c .stepped .ensures (world .writer) (toldNow world) kept)))
+
+pub notes-now-spec : {M : Type 1} → statement M
+notes-now-spec =
+    tie.close
+    (tie.spec
+    enum-told
+    enum-told-2
+    enum-told-3
+    enum-known-call
+    begun-requires
+    enum-known-call-2
+    begun-requires-2
+    enum-known-call-3
+    begun-requires-3
+    enum-told-4
+    commanded-requires
+    begun-requires-4
+    enum-told-5
+    stepped-requires
+    returns
+    returns-2
+    returns-3
+    returns-4
+    returns-5
+    returns-6
+    returns-7
+    returns-8)

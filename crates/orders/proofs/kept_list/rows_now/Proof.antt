@@ -1,0 +1,32 @@
+-- `orders::kept_list::rows_now` meets its contract, by whether the list is fed.
+-- Assumes nothing.
+use mathlib.Core.Path.{refl, ap}
+use Rattle.plain_list.specs.PlainList.{Told}
+use borrow.Author.Needs.{needs}
+use Rattle.orders.proofs.kept_list.rows_now.Statement.{statement}
+use Rattle.orders.proofs.kept_list.rows_now.Tie as tie
+
+feed-requires : tie.Need-feed-requires
+feed-requires c κs = search needs
+
+same-length : tie.Need-same-length
+same-length c = search needs
+
+same-length-2 : tie.Need-same-length-2
+same-length-2 c = search needs
+
+returns : tie.Need-returns
+returns c =
+    let fed = c .before .before .before .before .feed .ensures in
+    rw (c .before .before .before .before .before .before .before .if1 .taken)
+    (record {
+      shown = ap (λ (t : Told). t .rows) (fed .shown);
+      words-length = fed .words-stay .size;
+      places-length = fed .places-stay .size;
+    })
+
+returns-2 : tie.Need-returns-2
+returns-2 c = rw (c .if1 .left) (record { shown = refl; words-length = refl; places-length = refl })
+
+pub rows-now-spec : {M : Type 1} → statement M
+rows-now-spec = tie.close (tie.spec feed-requires same-length same-length-2 returns returns-2)

@@ -1,0 +1,28 @@
+-- Whether the slots show the plain list: `Shows` as a test.
+use Prim.Native.Nat.{ℕ, zero, suc}
+use mathlib.Core.Bool.{Bool, true, false}
+use mathlib.Core.List.{List, [], _∷_}
+use lib.Dec.{eqb, ltb}
+use lib.ListN.{length, getD}
+use Rattle.refusal.specs.Judging.{both, either}
+use Rattle.slot_words.specs.Word.{wordOf}
+use Rattle.plain_list.specs.PlainList.{Row, Rows, isPlace}
+
+-- the test says whether the statement holds
+abbrev pub Decides : Type 0 → Bool → Type 0
+Decides P true = P
+Decides P false = P → ⊥
+
+-- a word stands at a place
+unfoldable pub stands : List ℕ → ℕ → ℕ → Bool
+stands slots place word = both (ltb place (length slots)) (eqb (getD slots place 0) word)
+
+-- "each row's word at its place"
+unfoldable pub rowsStand : List ℕ → Rows → Bool
+rowsStand slots [] = true
+rowsStand slots (r ∷ rows) = both (rowsStand slots rows) (stands slots (r .place) (wordOf (r .point) (r .value)))
+
+-- "the slots are 0 except": each of the first n that is no row's place
+unfoldable pub othersEmpty : List ℕ → Rows → ℕ → Bool
+othersEmpty slots rows zero = true
+othersEmpty slots rows (suc n) = both (othersEmpty slots rows n) (either (isPlace n rows) (eqb (getD slots n 0) 0))

@@ -1,0 +1,82 @@
+// Answers in document 01's words.
+use crate::output::number;
+use answers::CallAnswer;
+use answers::Spot;
+use record::CommandAnswer;
+use refusal::Refusal;
+use slot_words::word::point_of;
+use slot_words::word::value_of;
+use text_buffer::byte;
+use text_buffer::decimal;
+use text_buffer::text;
+
+pub(crate) fn answer_text(filled: usize, out: &mut [u8], answer: CallAnswer) -> usize {
+    match answer {
+        CallAnswer::Started => text(filled, out, b"started"),
+        CallAnswer::GivenAgain(stored) => {
+            stored_text(text(filled, out, b"given again: "), out, stored)
+        }
+        CallAnswer::Underway => text(filled, out, b"underway"),
+        CallAnswer::LookedUp(value) => number(text(filled, out, b"value"), out, value),
+        CallAnswer::Placed(spot) => placed_text(filled, out, spot),
+        CallAnswer::Changed(value) => new_value_text(filled, out, value),
+        CallAnswer::Removed(reach) => reach_text(filled, out, reach),
+        CallAnswer::NoPerch => refusal_text(filled, out, Refusal::NoPerch),
+        CallAnswer::Unknown => refusal_text(filled, out, Refusal::Unknown),
+        CallAnswer::Walked(word) => slot_text(filled, out, word),
+        CallAnswer::WalkedLast(word) => slot_text(text(filled, out, b"last: "), out, word),
+        CallAnswer::Refused(refusal) => refused_text(filled, out, refusal),
+    }
+}
+
+// A station's stored answer, in the words in which its change gave it.
+fn stored_text(filled: usize, out: &mut [u8], stored: CommandAnswer) -> usize {
+    match stored {
+        CommandAnswer::Value(value) => new_value_text(filled, out, value),
+        CommandAnswer::Unknown => refusal_text(filled, out, Refusal::Unknown),
+    }
+}
+
+fn new_value_text(filled: usize, out: &mut [u8], value: u32) -> usize {
+    number(text(filled, out, b"new value"), out, value)
+}
+
+pub(crate) fn reach_text(filled: usize, out: &mut [u8], reach: u32) -> usize {
+    number(text(filled, out, b"reach"), out, reach)
+}
+
+fn placed_text(filled: usize, out: &mut [u8], spot: Spot) -> usize {
+    let slot = number(text(filled, out, b"placed in slot"), out, spot.slot);
+    number(text(slot, out, b", index"), out, spot.index)
+}
+
+// What a walk read.
+fn slot_text(filled: usize, out: &mut [u8], word: u64) -> usize {
+    if word == 0 {
+        return text(filled, out, b"empty slot");
+    }
+    word_text(text(filled, out, b"word of "), out, word)
+}
+
+pub(crate) fn word_text(filled: usize, out: &mut [u8], word: u64) -> usize {
+    let point = number(text(filled, out, b"point"), out, point_of(word));
+    number(text(point, out, b", value"), out, value_of(word))
+}
+
+// A call that was refused, so that nothing happened.
+pub(crate) fn refused_text(filled: usize, out: &mut [u8], refusal: Refusal) -> usize {
+    refusal_text(text(filled, out, b"refused: "), out, refusal)
+}
+
+// A refusal's number and word.
+fn refusal_text(filled: usize, out: &mut [u8], refusal: Refusal) -> usize {
+    let numbered = decimal(filled, out, refusal.number() as u64);
+    refusal_word(byte(numbered, out, b' '), out, refusal)
+}
+
+fn refusal_word(filled: usize, out: &mut [u8], refusal: Refusal) -> usize {
+    let word = refusal.word();
+    let letters = word.letters;
+    let length = word.length;
+    text(filled, out, &letters[..length])
+}

@@ -1,0 +1,151 @@
+//! Compares the proved orders program, whose path is the argument, with the reference: whole
+//! outputs for fixed and pseudorandom inputs. Exit status 1 on any difference, if the program
+//! cannot be run, and if a text that must occur in the outputs never did.
+
+mod child_program;
+mod comparison;
+mod drawn_commands;
+mod orders_edges;
+mod orders_garbage;
+mod orders_histories;
+mod orders_line;
+mod orders_protocol;
+mod orders_spelling;
+mod orders_text;
+mod plain_feeding;
+mod random;
+mod reference_calls;
+mod reference_command;
+mod reference_frame;
+mod reference_record;
+mod reference_writer;
+
+// The list's lookups are not printed.
+#[allow(dead_code)]
+mod plain_list;
+// The disabled points are no calls of a list.
+#[allow(dead_code)]
+mod reference_table;
+
+use comparison::Comparison;
+use orders_histories::Sizes;
+use random::Random;
+use std::process::ExitCode;
+
+const GARBAGE: usize = 1000;
+const HISTORIES: usize = 3000;
+
+/// The program's sample, and what it prints.
+const SAMPLE: &[u8] = include_bytes!("../crates/orders/stdin");
+const SAMPLE_PRINTED: &[u8] = include_bytes!("../crates/orders/stdout");
+
+/// Histories on larger panels.
+const LARGER: [Sizes; 4] = [
+    sizes(4096, 64, 5000, 30_000),
+    sizes(4096, 1, 3000, 20_000),
+    sizes(257, 33, 300, 20_000),
+    sizes(1, 64, 3, 3000),
+];
+
+const fn sizes(m: u32, k: u32, points: u32, lines: u32) -> Sizes {
+    Sizes {
+        m,
+        k,
+        points,
+        lines,
+    }
+}
+
+/// What the reference must print somewhere behind a history: every answer and every message.
+const OCCURRING: [&str; 41] = [
+    ": made\n",
+    ": started\n",
+    ": underway\n",
+    ": value ",
+    ": placed in slot ",
+    ": new value ",
+    ": reach ",
+    ": 6 no perch\n",
+    ": 7 unknown\n",
+    ": word of point ",
+    ": empty slot\n",
+    ": last: word of point ",
+    ": last: empty slot\n",
+    ": given again: new value ",
+    ": given again: 7 unknown\n",
+    ": refused: 1 misfit\n",
+    ": refused: 2 address\n",
+    ": refused: 3 reader\n",
+    ": refused: 4 engaged\n",
+    ": refused: 5 idle\n",
+    ": refused: 8 length\n",
+    ": refused: 9 map\n",
+    ": refused: 10 station\n",
+    ": refused: 11 turn\n",
+    ": refused: 12 altered\n",
+    ": refused: 13 code\n",
+    ": unknown word\n",
+    ": word missing\n",
+    ": number missing: reader\n",
+    ": number missing: point\n",
+    ": number missing: value\n",
+    ": number missing: flip\n",
+    ": not a number: reader\n",
+    ": not a number: value\n",
+    ": number above 4294967295: point\n",
+    ": number above 4294967295: keep\n",
+    ": something behind the last word\n",
+    ": not a hexadecimal digit\n",
+    ": odd count of hexadecimal digits\n",
+    " | list: point ",
+    "  the slots show the plain list\n",
+];
+
+/// Compares all inputs, and gives the texts that never occurred behind a history.
+fn compare_all(comparison: &mut Comparison) -> Result<Vec<&'static str>, String> {
+    comparison.compare(SAMPLE)?;
+    for input in orders_edges::inputs() {
+        comparison.compare(&input)?;
+    }
+    let mut random = Random(1);
+    for _ in 0..GARBAGE {
+        comparison.compare(&orders_garbage::any(&mut random))?;
+    }
+    for sizes in &LARGER {
+        comparison.compare(&orders_histories::of(&mut random, sizes))?;
+    }
+    let mut missing = OCCURRING.to_vec();
+    for _ in 0..HISTORIES {
+        let printed = comparison.compare(&orders_histories::small(&mut random))?;
+        let printed = String::from_utf8_lossy(&printed);
+        missing.retain(|text| !printed.contains(text));
+    }
+    Ok(missing)
+}
+
+fn run() -> Result<(), String> {
+    if orders_protocol::run(SAMPLE) != SAMPLE_PRINTED {
+        return Err("the reference does not print the sample's output".to_string());
+    }
+    let mut comparison = Comparison::new(orders_protocol::run)?;
+    let missing = compare_all(&mut comparison)?;
+    println!(
+        "orders_compare: {} inputs compared, {} differences",
+        comparison.inputs, comparison.differences
+    );
+    match (comparison.differences, missing.as_slice()) {
+        (0, []) => Ok(()),
+        (0, missing) => Err(format!("never occurred: {missing:?}")),
+        _ => Err("the outputs differ".to_string()),
+    }
+}
+
+fn main() -> ExitCode {
+    match run() {
+        Ok(()) => ExitCode::SUCCESS,
+        Err(reason) => {
+            eprintln!("orders_compare: {reason}");
+            ExitCode::FAILURE
+        }
+    }
+}

@@ -1,0 +1,90 @@
+//! Calls and answers as the orders program prints them.
+
+use crate::reference_calls::{Answer, Call};
+use crate::reference_command::Entry;
+use crate::reference_table::{point_of, value_of, Step};
+use crate::reference_writer::WriterStep;
+
+/// The refusal table's words, from number 1 on.
+const WORDS: [&str; 14] = [
+    "misfit", "address", "reader", "engaged", "idle", "no perch", "unknown", "length", "map",
+    "station", "turn", "altered", "code", "short",
+];
+
+/// The call in its normal form.
+pub fn call(call: Call, frame: &[u8]) -> String {
+    match call {
+        Call::StartLookup { reader, point } => format!("start lookup {reader} {point}"),
+        Call::StartWalk { reader } => format!("start walk {reader}"),
+        Call::StepReader { reader } => format!("step reader {reader}"),
+        Call::StartPut { point, value } => format!("put {point} {value}"),
+        Call::StartChange { point, keep, flip } => format!("change {point} {keep} {flip}"),
+        Call::StartRemoval { point } => format!("remove {point}"),
+        Call::StartCommand => {
+            let bytes = frame.iter().map(|byte| format!(" {byte:02X}"));
+            format!("command{}", bytes.collect::<String>())
+        }
+        Call::StepWriter => "step writer".to_string(),
+    }
+}
+
+pub fn answer(answer: Answer) -> String {
+    let given = match answer {
+        Answer::Start(started) => started.map(|()| "started".to_string()),
+        Answer::Entry(entry) => entry.map(entered),
+        Answer::Reader(step) => step.map(read),
+        Answer::Writer(step) => step.map(written),
+    };
+    given.unwrap_or_else(refused)
+}
+
+pub fn refused(number: u32) -> String {
+    format!("refused: {}", refusal(number))
+}
+
+/// A refusal's number and word.
+fn refusal(number: u32) -> String {
+    format!("{number} {}", WORDS[number as usize - 1])
+}
+
+fn entered(entry: Entry) -> String {
+    match entry {
+        Entry::Started => "started".to_string(),
+        Entry::GivenAgain(Some(value)) => format!("given again: new value {value}"),
+        Entry::GivenAgain(None) => format!("given again: {}", refusal(7)),
+    }
+}
+
+fn read(step: Step) -> String {
+    match step {
+        Step::Underway => "underway".to_string(),
+        Step::Found(value) => format!("value {value}"),
+        Step::Unknown => refusal(7),
+        Step::Word(word) => slot(word),
+        Step::LastWord(word) => format!("last: {}", slot(word)),
+    }
+}
+
+fn slot(word: u64) -> String {
+    if word == 0 {
+        "empty slot".to_string()
+    } else {
+        format!("word of {}", row(word))
+    }
+}
+
+/// A word's point and value.
+pub fn row(word: u64) -> String {
+    format!("point {}, value {}", point_of(word), value_of(word))
+}
+
+fn written(step: WriterStep) -> String {
+    match step {
+        WriterStep::Underway => "underway".to_string(),
+        WriterStep::Put { slot, index } => format!("placed in slot {slot}, index {index}"),
+        WriterStep::Changed(value) => format!("new value {value}"),
+        WriterStep::Removed(reach) => format!("reach {reach}"),
+        WriterStep::NoPerch => refusal(6),
+        WriterStep::Unknown => refusal(7),
+    }
+}

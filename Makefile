@@ -20,7 +20,7 @@ bench:
 
 fuzz:
 	rt staticlib frame
-	rt check bench
+	rt check bench orders
 	host/fuzz
 
 check-times:

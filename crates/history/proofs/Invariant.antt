@@ -18,7 +18,6 @@ use Rattle.record.specs.declared.WriterWork.{WriterWork}
 use Rattle.record.specs.Parts.{idleReader, unheardStation, freshRecord, workOf, numbered}
 use Rattle.record_ranges.specs.Ranges.{sizesInRange, inRange}
 use Rattle.record_ranges.proofs.Laws.{fresh-in-range}
-use Rattle.refusal.specs.Judging.{within}
 use Rattle.refusal.proofs.Laws.{both-true, is-within}
 use Rattle.answers.specs.Answers.{removed, gives, outcome}
 use Rattle.table.specs.FreshPanel.{makeFresh}

@@ -19,7 +19,7 @@ use Rattle.record.specs.declared.Search.the-variants.{Unread, Probing}
 use Rattle.record.specs.declared.ReaderWork.{ReaderWork}
 use Rattle.record.specs.declared.ReaderWork.the-variants.{Idle, LookingUp, Walking}
 use Rattle.work_ranges.specs.WorkRanges.{validPoint, searchInRange, lookupInRange, workInRange}
-use Rattle.answers.specs.Answers.{underway, walked, walkedLast, isRefused}
+use Rattle.answers.specs.Answers.{walked, walkedLast, isRefused}
 use Rattle.plain_list.specs.PlainList.{Rows, Entry, absent, present, entryOf, lookupEntry, lookupRow, Each, Some, here, there}
 use Rattle.plain_list.proofs.RowLaws.{Steady, steady-same}
 use Rattle.plain_list.proofs.Agreement.{valid-low, Agrees, place-low, shown-row, row-shown, word-row}

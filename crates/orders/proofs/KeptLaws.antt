@@ -9,7 +9,6 @@ use borrow.Author.Tests.{eqb-true, ne-eqb, not-false}
 use lib.Dec.{eqb}
 use lib.ListN.{length, getD}
 use Rattle.refusal.specs.declared.Refusal.{Refusal}
-use Rattle.refusal.specs.Refusals.{numberOf}
 use Rattle.refusal.specs.Judging.{both, either}
 use Rattle.refusal.proofs.Laws.{not-refused, number-positive}
 use Rattle.record.specs.declared.Record.{Record}
@@ -28,12 +27,11 @@ use Rattle.frame.specs.declared.Reading.{Reading}
 use Rattle.frame.specs.declared.ReadAnswer.the-variants.{Frame, Refused}
 use Rattle.frame.specs.Frames.{fieldsIn, readRefusal, handed, readFrame}
 use Rattle.frame.specs.Answers.{paperRead}
-use Rattle.command.specs.declared.Sent.{Sent}
-use Rattle.command.specs.Command.{sentOf, sentIn, frameRefusal, entryRefusal, inTurn, startCommand}
+use Rattle.command.specs.Command.{sentOf, sentIn, frameRefusal, entryRefusal, startCommand}
 use Rattle.history.specs.declared.Call.{Call}
 use Rattle.history.specs.declared.Call.the-variants.{StartLookup, StartWalk, StepReader, StartPut, StartChange, StartRemoval, StartCommand, StepWriter}
 use Rattle.history.specs.Calls.{applied}
-use Rattle.history.specs.World.{Request, Role, writerStep, roleOf, WriterNotes, World, storesNow, endsNow, feedsNow, toldNow, rowsNow, steppedWriter, writerNow, noted, outcomeOf, next, freshWorld}
+use Rattle.history.specs.World.{Role, writerStep, roleOf, World, storesNow, endsNow, feedsNow, toldNow, rowsNow, steppedWriter, writerNow, noted, outcomeOf, next, freshWorld}
 use Rattle.history.proofs.Invariant.{Inv, fresh-inv}
 use Rattle.history.proofs.Theorem.{call-keeps}
 use Rattle.orders.specs.declared.kept_list.Notes.{Notes}

@@ -12,7 +12,7 @@ use lib.ListN.{length, getD}
 use Rattle.refusal.specs.Judging.{both, either}
 use Rattle.refusal.proofs.Laws.{both-left, both-right, both-true}
 use Rattle.slot_words.specs.Word.{pointOf, valueOf, wordOf}
-use Rattle.plain_list.specs.PlainList.{Row, Rows, isPlace, Each, AtPlace, Shows}
+use Rattle.plain_list.specs.PlainList.{Rows, isPlace, Each, AtPlace, Shows}
 use Rattle.plain_rows.specs.Rows.{rowsOf}
 use Rattle.plain_rows.proofs.RowsLaws.{rows-more}
 use Rattle.orders.specs.Verdict.{Decides, stands, rowsStand, othersEmpty}

@@ -6,7 +6,7 @@ use lib.Dec.{eqb, ltb}
 use lib.ListN.{length, getD}
 use Rattle.refusal.specs.Judging.{both, either}
 use Rattle.slot_words.specs.Word.{wordOf}
-use Rattle.plain_list.specs.PlainList.{Row, Rows, isPlace}
+use Rattle.plain_list.specs.PlainList.{Rows, isPlace}
 
 -- the test says whether the statement holds
 abbrev pub Decides : Type 0 → Bool → Type 0

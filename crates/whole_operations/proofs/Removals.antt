@@ -19,7 +19,7 @@ use Rattle.search.specs.declared.Searched.{Searched}
 use Rattle.search.specs.declared.Searched.the-variants.{Going, Answered}
 use Rattle.search.specs.declared.SearchAnswer.the-variants.{Found as SearchAnswer·Found, Unknown}
 use Rattle.search.specs.Search.{searchAdvance}
-use Rattle.moves.specs.declared.update.Update.the-variants.{Nothing, Reach, Uncounted}
+use Rattle.moves.specs.declared.update.Update.the-variants.{Nothing, Uncounted}
 use Rattle.moves.specs.Counts.{uncounted, largestCounted}
 use Rattle.moves.specs.Moves.{WriterMove, isIdle, ends, updated}
 use Rattle.removal.specs.Removal.{isLast, removalAt, removalAnswered, removalSearched, removalEmpties, removalLowers, removalStageAdvance, removalAdvance}

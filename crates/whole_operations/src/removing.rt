@@ -1,6 +1,5 @@
 // A whole removal. Its last steps look at the counts, so that it keeps a record of its own.
-ghost use Prim.Native.Nat.{_≤_};
-ghost use mathlib.Core.Bool.{true, false, not};
+ghost use mathlib.Core.Bool.{true, not};
 ghost use mathlib.Core.Path.{_≡_};
 ghost use lib.ListN.{length};
 ghost use Rattle.record.specs.Parts.{withWriter};

@@ -3,7 +3,6 @@
 use mathlib.Core.Path.{sym, ap, _∙_}
 use denote.Ref.{now}
 use Rattle.frame.specs.Answers.{paperRead}
-use Rattle.command.specs.declared.Sent.{Sent}
 use Rattle.history.specs.World.{asChange}
 use Rattle.orders.proofs.KeptLaws.{frame-sent, frame-not-refused}
 use borrow.Author.Needs.{needs}

@@ -1,7 +1,6 @@
 -- `orders::kept_list::ends_now` meets its contract.
 -- Assumes nothing.
 use mathlib.Core.Path.{ap₂, _∙_}
-use denote.Ref.{now}
 use Rattle.refusal.specs.Judging.{both}
 use Rattle.answers.specs.Answers.{paperCall}
 use Rattle.orders.proofs.KeptLaws.{ends-by-step}

@@ -7,17 +7,15 @@ use mathlib.Core.Path.{_≡_, refl, _∙_, sym, ap}
 use native.Mathlib.Omega.{arith}
 use borrow.Author.Needs.{needs}
 use lib.ListN.{length}
-use Rattle.record.specs.declared.Record.{Record}
 use Rattle.record.specs.Parts.{withReach, withNumbered, withCount, withWriter, countOf}
 use Rattle.answers.specs.Answers.{underway, isUnderway, outcome, paperWriter}
 use Rattle.moves.specs.Counts.{counted}
-use Rattle.moves.specs.Moves.{updated, paperMoved}
+use Rattle.moves.specs.Moves.{paperMoved}
 use Rattle.writer.proofs.WriterLaws.{slots-length, AtWork}
 use Rattle.whole_operations.specs.Whole.{writerStep, leaves}
-use Rattle.whole_operations.specs.WholeFacts.{putsOrChanges, indexCounted}
+use Rattle.whole_operations.specs.WholeFacts.{putsOrChanges}
 use Rattle.whole_operations.proofs.WholeLaws.{fewer, still, OnTheWay, arrives, moves-on}
 use Rattle.whole_operations.proofs.WholeEnds.{stays-at-work}
-use Rattle.whole_operations.proofs.WorkBeside.{step-beside}
 use Rattle.whole_operations.proofs.PutsAndChanges.{move-adds, step-kept}
 use Rattle.whole_operations.proofs.put_and_change.steps.Statement.{statement}
 use Rattle.whole_operations.proofs.put_and_change.steps.Tie as tie

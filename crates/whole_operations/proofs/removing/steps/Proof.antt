@@ -9,7 +9,7 @@ use native.Mathlib.Omega.{arith}
 use borrow.Author.Needs.{needs}
 use lib.ListN.{length}
 use Rattle.record.specs.declared.Record.{Record}
-use Rattle.record.specs.Parts.{withReach, withNumbered, withCount, withWriter}
+use Rattle.record.specs.Parts.{withReach, withCount, withWriter}
 use Rattle.answers.specs.Answers.{underway, isUnderway, outcome, paperWriter}
 use Rattle.moves.specs.Moves.{WriterMove, updated, paperMoved}
 use Rattle.writer.proofs.WriterLaws.{slots-length, AtWork, works}

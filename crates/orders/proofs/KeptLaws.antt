@@ -35,7 +35,7 @@ use Rattle.history.specs.World.{Role, writerStep, roleOf, World, storesNow, end
 use Rattle.history.proofs.Invariant.{Inv, fresh-inv}
 use Rattle.history.proofs.Theorem.{call-keeps}
 use Rattle.orders.specs.declared.kept_list.Notes.{Notes}
-use Rattle.orders.specs.declared.session.Session.{Session}
+use Rattle.orders.specs.declared.panel_state.PanelState.{PanelState}
 use Rattle.orders.specs.Kept.{isWriterStep, feedsAfter, NotesKept, Listed, Keeps, Reached, begun, called, request}
 
 -- a call stores or ends only as a step of the writer
@@ -151,8 +151,8 @@ reached-inv (begun m k m-low m-high k-low k-high) = own m k (freshWorld m k) (fr
 reached-inv (called {world} reached request fit) =
     own (world .panel .m) (world .panel .k) (next world request) (call-keeps (world .panel .m) (world .panel .k) world request (reached-inv reached) fit)
 
--- a session that keeps such a world
-module _ (world : World) (reached : Reached world) (before : Session) (slots words places : List ℕ) (keeps : Keeps world before slots words places) where
+-- a state that keeps such a world
+module _ (world : World) (reached : Reached world) (before : PanelState) (slots words places : List ℕ) (keeps : Keeps world before slots words places) where
   abbrev m : ℕ
   m = world .panel .m
 
@@ -181,8 +181,8 @@ module _ (world : World) (reached : Reached world) (before : Session) (slots wor
       let shown : Shows m (world .slots) (rowsOf words places (before .rows)) = shows m k (world .panel .reach) (world .panel .counts) (world .slots) (rowsOf words places (before .rows)) agrees in
       subst (λ (n : ℕ). Shows n slots (rowsOf words places (before .rows))) (sym as-long) (subst (λ (l : List ℕ). Shows m l (rowsOf words places (before .rows))) (sym (keeps .slots-kept)) shown)
 
-  -- a call carried out, and what the code's functions say of the session after it
-  module _ (call : Call) (frame : List ℕ) (after : Session) (answer : Answer) (slots′ words′ places′ : List ℕ) (feeds : Bool) (done : outcome (after .panel) slots′ answer ≡ applied (before .panel) slots call frame) (whole : length slots′ ≡ length slots) (feeding : feeds ≡ feedsAfter (before .panel) (before .notes .fed) answer (roleOf call frame)) where
+  -- a call carried out, and what the code's functions say of the state after it
+  module _ (call : Call) (frame : List ℕ) (after : PanelState) (answer : Answer) (slots′ words′ places′ : List ℕ) (feeds : Bool) (done : outcome (after .panel) slots′ answer ≡ applied (before .panel) slots call frame) (whole : length slots′ ≡ length slots) (feeding : feeds ≡ feedsAfter (before .panel) (before .notes .fed) answer (roleOf call frame)) where
     abbrev role : Role
     role = roleOf call frame
 

@@ -16,7 +16,7 @@ use Rattle.history.specs.declared.Call.the-variants.{StartLookup, StartWalk, St
 use Rattle.history.specs.World.{Request, Role, WriterNotes, World, storesNow, endsNow, next, freshWorld}
 use Rattle.history.specs.Claim.{ArgumentsFit}
 use Rattle.orders.specs.declared.kept_list.Notes.{Notes}
-use Rattle.orders.specs.declared.session.Session.{Session}
+use Rattle.orders.specs.declared.panel_state.PanelState.{PanelState}
 
 -- the call is a step of the writer
 abbrev pub isWriterStep : Call → Bool
@@ -45,11 +45,11 @@ pub record Listed (words places words′ places′ : List ℕ) (count : ℕ) (ro
   pub places-length : length places′ ≡ length places
 
 -- the program keeps the world: its panel and slots, its plain list in two slices of as many entries, and the notes
-pub record Keeps (world : World) (session : Session) (slots words places : List ℕ) : Type 0 where
-  pub panel : session .panel ≡ world .panel
+pub record Keeps (world : World) (state : PanelState) (slots words places : List ℕ) : Type 0 where
+  pub panel : state .panel ≡ world .panel
   pub slots-kept : slots ≡ world .slots
-  pub rows : rowsOf words places (session .rows) ≡ world .rows
-  pub notes : NotesKept (session .notes) (world .writer)
+  pub rows : rowsOf words places (state .rows) ≡ world .rows
+  pub notes : NotesKept (state .notes) (world .writer)
   pub words-length : length words ≡ length slots
   pub places-length : length places ≡ length slots
 

@@ -6,19 +6,19 @@ use crate::faults::Fault;
 use crate::input::is_too_long;
 use crate::input::text_length;
 use crate::messages;
+use crate::panel_state::PanelState;
+use crate::panel_state::carry_out;
+use crate::panel_state::opened;
 use crate::reading::Order;
 use crate::reading::is_comment;
 use crate::reading::order_of;
-use crate::session::Session;
-use crate::session::carry_out;
-use crate::session::opened;
 use crate::showing::show;
 use answers::FreshAnswer;
 use history::Call;
 use table::fresh;
 
 pub(crate) struct Run {
-    pub session: Session,
+    pub state: PanelState,
     // a panel was made
     pub has_panel: bool,
     // how many lines there were
@@ -120,7 +120,7 @@ fn make_panel(now: Run, m: u32, k: u32, slots: &mut [u64], out: &mut [u8]) -> Ru
     match answer {
         FreshAnswer::Refused(_) => with_filled(now, filled),
         FreshAnswer::Made => Run {
-            session: opened(panel),
+            state: opened(panel),
             has_panel: true,
             number: now.number,
             filled: filled,
@@ -167,24 +167,24 @@ fn run_call(
     if !now.has_panel {
         return missing_panel(now, out);
     }
-    let session = now.session;
-    let panel = session.panel;
+    let state = now.state;
+    let panel = state.panel;
     let m = panel.m as usize;
     let lent = least(m, slots.len());
     let in_words = least(m, words.len());
     let in_places = least(m, places.len());
     let carried = carry_out(
-        session,
+        state,
         &mut slots[..lent],
         &mut words[..in_words],
         &mut places[..in_places],
         call,
         frame,
     );
-    let after = carried.session;
+    let after = carried.state;
     let answer = carried.answer;
     Run {
-        session: after,
+        state: after,
         has_panel: true,
         number: now.number,
         filled: call_line(now.filled, out, now.number, call, frame, answer),
@@ -199,8 +199,8 @@ fn show_panel(now: Run, slots: &[u64], words: &[u64], places: &[u32], out: &mut 
     if !now.has_panel {
         return missing_panel(now, out);
     }
-    let session = now.session;
-    let panel = session.panel;
+    let state = now.state;
+    let panel = state.panel;
     let lent = least(panel.m as usize, slots.len());
     let filled = show(
         now.filled,
@@ -210,7 +210,7 @@ fn show_panel(now: Run, slots: &[u64], words: &[u64], places: &[u32], out: &mut 
         &slots[..lent],
         words,
         places,
-        session.rows,
+        state.rows,
     );
     with_filled(now, filled)
 }

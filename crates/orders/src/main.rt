@@ -11,9 +11,9 @@ mod lines;
 mod messages;
 mod numbers;
 mod output;
+mod panel_state;
 mod reading;
 mod rows_shown;
-mod session;
 mod showing;
 mod words;
 
@@ -21,8 +21,8 @@ use input::next_part;
 use input::read;
 use lines::Run;
 use lines::run_line;
+use panel_state::opened;
 use record::parts::fresh_record;
-use session::opened;
 
 fn main() {
     let mut slots = [0u64; 4096];
@@ -62,7 +62,7 @@ fn run_program(
 fn begin() -> Progress {
     Progress {
         run: Run {
-            session: opened(fresh_record(0, 0)),
+            state: opened(fresh_record(0, 0)),
             has_panel: false,
             number: 0,
             filled: 0,

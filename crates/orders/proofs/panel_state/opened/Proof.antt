@@ -1,11 +1,11 @@
--- `orders::session::opened` meets its contract: a fresh world has no row, and nothing is asked.
+-- `orders::panel_state::opened` meets its contract: a fresh world has no row, and nothing is asked.
 -- Assumes nothing.
 use mathlib.Core.Path.{refl, sym, _∙_}
 use lib.ListN.{length-replicate}
 use Rattle.plain_rows.specs.Rows.{rowsOf}
 use Rattle.history.specs.World.{freshWorld}
-use Rattle.orders.proofs.session.opened.Statement.{statement}
-use Rattle.orders.proofs.session.opened.Tie as tie
+use Rattle.orders.proofs.panel_state.opened.Statement.{statement}
+use Rattle.orders.proofs.panel_state.opened.Tie as tie
 
 returns : tie.Need-returns
 unfolding freshWorld rowsOf

@@ -19,7 +19,7 @@ use plain_rows::Operation;
 use record::Record;
 
 // The slots and the list's rows are lent beside it.
-pub(crate) struct Session {
+pub(crate) struct PanelState {
     pub panel: Record,
     pub notes: Notes,
     // how many rows the list has
@@ -27,15 +27,15 @@ pub(crate) struct Session {
 }
 
 pub(crate) struct Carried {
-    pub session: Session,
+    pub state: PanelState,
     pub answer: CallAnswer,
 }
 
 // A panel of which nothing was asked yet: the list has no row.
-pub(crate) fn opened(panel: Record) -> Session
+pub(crate) fn opened(panel: Record) -> PanelState
     ensures { λ r. ⌜ ((m k : ℕ) (words places : List ℕ) → panel ≡ freshRecord m k → length words ≡ m → length places ≡ m → Keeps (freshWorld m k) r (freshWorld m k .slots) words places) ⌝ }
 {
-    Session {
+    PanelState {
         panel: panel,
         notes: Notes {
             asked: Operation::Nothing,
@@ -48,7 +48,7 @@ pub(crate) fn opened(panel: Record) -> Session
 // Carries a call out, and feeds the list if the call feeds it: whatever list of calls led here, what is
 // kept is the plain list of the claim about all of them.
 pub(crate) fn carry_out(
-    before: Session,
+    before: PanelState,
     slots: &mut [u64],
     words: &mut [u64],
     places: &mut [u32],
@@ -56,7 +56,7 @@ pub(crate) fn carry_out(
     frame: &[u8],
 ) -> Carried
     ensures given { λ r. ⌜ paperCall (r .answer) ≡ applied (before .panel) (now (slots .entry)) call (now (frame .entry)) .answer ⌝ }
-    ensures kept { λ r. ⌜ ((world : World) → Reached world → Keeps world before (now (slots .entry)) (now (words .entry)) (now (places .entry)) → Keeps (next world (request call (now (frame .entry)))) (r .session) (now (slots .exit)) (now (words .exit)) (now (places .exit))) ⌝ }
+    ensures kept { λ r. ⌜ ((world : World) → Reached world → Keeps world before (now (slots .entry)) (now (words .entry)) (now (places .entry)) → Keeps (next world (request call (now (frame .entry)))) (r .state) (now (slots .exit)) (now (words .exit)) (now (places .exit))) ⌝ }
 {
     let panel = before.panel;
     let notes = before.notes;
@@ -66,7 +66,7 @@ pub(crate) fn carry_out(
     let answer = done.answer;
     let feeds = feeds_now(panel, notes.fed, answer, call);
     Carried {
-        session: Session {
+        state: PanelState {
             panel: after,
             notes: notes_now(notes, feeds, answer, call, frame),
             rows: rows_now(words, places, before.rows, panel, asked, feeds),

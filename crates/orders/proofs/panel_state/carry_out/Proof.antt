@@ -1,4 +1,4 @@
--- `orders::session::carry_out` meets its contract: by `kept`, what it keeps is the world after the call.
+-- `orders::panel_state::carry_out` meets its contract: by `kept`, what it keeps is the world after the call.
 -- Assumes nothing.
 use mathlib.Core.Path.{_≡_, ap}
 use denote.Ref.{now}
@@ -6,8 +6,8 @@ use lib.ListN.{length}
 use Rattle.answers.specs.Answers.{Outcome, paperCall}
 use Rattle.orders.proofs.KeptLaws.{kept}
 use borrow.Author.Needs.{needs}
-use Rattle.orders.proofs.session.carry_out.Statement.{statement}
-use Rattle.orders.proofs.session.carry_out.Tie as tie
+use Rattle.orders.proofs.panel_state.carry_out.Statement.{statement}
+use Rattle.orders.proofs.panel_state.carry_out.Tie as tie
 
 apply-requires : tie.Need-apply-requires
 apply-requires c κs = search needs

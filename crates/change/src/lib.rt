@@ -111,7 +111,8 @@ fn change_searched(change: Change, searched: Searched) -> Moved
     }
 }
 
-fn change_answered(change: Change, answer: SearchAnswer) -> Moved
+// What the search's answer leads to.
+pub fn change_answered(change: Change, answer: SearchAnswer) -> Moved
     ensures { λ r. ⌜ paperMoved r ≡ changeAnswered change answer ⌝ }
 {
     let SearchAnswer::Found(place) = answer else {

@@ -86,7 +86,8 @@ fn put_searched(put: Put, searched: Searched) -> Moved
     }
 }
 
-fn put_answered(put: Put, answer: SearchAnswer) -> Moved
+// What the search's answer leads to.
+pub fn put_answered(put: Put, answer: SearchAnswer) -> Moved
     ensures { λ r. ⌜ paperMoved r ≡ putAnswered put answer ⌝ }
 {
     let SearchAnswer::Found(place) = answer else {

@@ -91,7 +91,8 @@ fn lookup_advance(lookup: Lookup, reach: u32, word: u64) -> Moved
     }
 }
 
-fn lookup_answer(answer: SearchAnswer) -> ReaderAnswer
+// What a lookup ends with, by its search's answer.
+pub fn lookup_answer(answer: SearchAnswer) -> ReaderAnswer
     ensures { λ r. ⌜ paperReader r ≡ lookupAnswer answer ⌝ }
 {
     match answer {

@@ -76,7 +76,8 @@ fn removal_searched(removal: Removal, searched: Searched) -> Moved
     }
 }
 
-fn removal_answered(removal: Removal, answer: SearchAnswer) -> Moved
+// What the search's answer leads to.
+pub fn removal_answered(removal: Removal, answer: SearchAnswer) -> Moved
     ensures { λ r. ⌜ paperMoved r ≡ removalAnswered removal answer ⌝ }
 {
     let SearchAnswer::Found(place) = answer else {

@@ -99,7 +99,7 @@ module _ (put : Put) where
   put-adds m k reach (Chosen index) word = takes m reach index
 
 -- ---- a change that is no command's
-given-ends : (alteration : Alteration) (point : ℕ) (answer : CommandAnswer) → isGiven alteration ≡ true → alterationEnds alteration point answer ≡ Nothing
+pub given-ends : (alteration : Alteration) (point : ℕ) (answer : CommandAnswer) → isGiven alteration ≡ true → alterationEnds alteration point answer ≡ Nothing
 unfolding isGiven alterationEnds
 given-ends (Given masks) point answer e = refl
 given-ends (Commanded command) point answer e = absurd (false≢true e)

@@ -24,14 +24,7 @@ use Rattle.moves.specs.Counts.{uncounted, largestCounted}
 use Rattle.moves.specs.Moves.{WriterMove, isIdle, ends, updated}
 use Rattle.removal.specs.Removal.{isLast, removalAt, removalAnswered, removalSearched, removalEmpties, removalLowers, removalStageAdvance, removalAdvance}
 use Rattle.writer.specs.Step.{writerAdvance}
-use Rattle.whole_operations.specs.WholeFacts.{indexUncounted, isBefore, isToRemove}
-
--- a removal, or nothing any more
-unfoldable pub removes : WriterWork → Bool
-removes Idle = true
-removes (Putting put) = false
-removes (Changing change) = false
-removes (Removing removal) = true
+use Rattle.whole_operations.specs.WholeFacts.{indexUncounted, isBefore, isToRemove, removes}
 
 -- the record held differs from the one that the removal began with in the reach and in this index's count, and in no count as long as the slot is not emptied
 pub record Kept (panel held : Record) (index : ℕ) (work : WriterWork) : Type 0 where
@@ -108,20 +101,6 @@ step-keeps panel held index (Changing change) word kept e = absurd (false≢true
 step-keeps panel held index (Removing removal) word kept e = by-stage panel held index (kept .same) removal (removal .stage) word (kept .none)
 
 -- ---- a removal that begins
-pub to-remove-works : (work : WriterWork) → isToRemove work ≡ true → isIdle work ≡ false
-unfolding isToRemove isIdle
-to-remove-works Idle e = absurd (false≢true e)
-to-remove-works (Putting put) e = refl
-to-remove-works (Changing change) e = refl
-to-remove-works (Removing removal) e = refl
-
-to-remove-removes : (work : WriterWork) → isToRemove work ≡ true → removes work ≡ true
-unfolding isToRemove removes
-to-remove-removes Idle e = refl
-to-remove-removes (Putting put) e = absurd (false≢true e)
-to-remove-removes (Changing change) e = absurd (false≢true e)
-to-remove-removes (Removing removal) e = refl
-
-pub begins-kept : (panel : Record) (work : WriterWork) → isToRemove work ≡ true → Kept panel panel 0 work
+pub begins-kept : (panel : Record) (work : WriterWork) → removes work ≡ true → Kept panel panel 0 work
 unfolding withReach withCount withNumbered
-begins-kept panel work e = record { same = refl; kind = to-remove-removes work e; none = λ h. refl }
+begins-kept panel work e = record { same = refl; kind = e; none = λ h. refl }

@@ -12,6 +12,7 @@ use lib.ListN.{length, length-set}
 use Rattle.refusal.specs.Judging.{refuseIf}
 use Rattle.refusal.proofs.Laws.{both-true, not-refused}
 use Rattle.record.specs.declared.Record.{Record}
+use Rattle.record.specs.declared.Search.{Search}
 use Rattle.record.specs.declared.Search.the-variants.{Unread}
 use Rattle.record.specs.declared.Walk.{Walk}
 use Rattle.record.specs.declared.ReaderWork.{ReaderWork}
@@ -24,13 +25,17 @@ use Rattle.record_ranges.proofs.Laws.{fields, work-in-range, with-work-in-range
 use Rattle.table.specs.Starts.{lookupRefusal, startReader, startLookup}
 use Rattle.whole_operations.specs.Whole.{untilEnded, readerStep, wholeLookup}
 use Rattle.table.proofs.ReaderLaws.{stepsLeft, OneLess, advances, none-left}
-use Rattle.whole_operations.proofs.WholeLaws.{budget-suffices, has-ended}
+use Rattle.whole_operations.specs.WholeFacts.{searchEnd}
+use Rattle.whole_operations.proofs.WholeLaws.{budget-suffices, has-ended, same-step}
+use Rattle.whole_operations.proofs.WholeSearch.{reach-high, standing, search-comes}
 use Rattle.search.specs.declared.Searched.{Searched}
 use Rattle.search.specs.declared.Searched.the-variants.{Going, Answered}
+use Rattle.search.specs.declared.SearchAnswer.{SearchAnswer}
 use Rattle.search.specs.declared.SearchAnswer.the-variants.{Found, Unknown}
 use Rattle.search.specs.Access.{wordRead}
-use Rattle.answers.specs.Answers.{Answer, started, refused, walked, walkedLast, isUnderway, Outcome, outcome, unlessRefused}
-use Rattle.search.specs.Search.{searchAdvance}
+use Rattle.answers.specs.Answers.{Answer, started, underway, refused, walked, walkedLast, isUnderway, Outcome, outcome, unlessRefused}
+use Rattle.answers.proofs.AnswerLaws.{allowed-outcome}
+use Rattle.search.specs.Search.{searchAccess, searchAdvance}
 use Rattle.reader_step.specs.Reader.{isIdle, readerAccess, ReaderMove, lookupAnswer, lookupMove, lookupAdvance, walkAdvance, readerAdvance, stepRefusal, moved, readerRuns, stepReader}
 use Rattle.search.proofs.SearchLaws.{searchLeft}
 
@@ -59,7 +64,7 @@ reader-idle m reach (LookingUp lookup) word e = lookup-idle (lookup .point) (sea
 reader-idle m reach (Walking walk) word e = walk-idle m walk word
 
 -- what holds on the way: the record in range, the reader one of its readers, and at work exactly while its operation is underway
-pub record AtWork (reader : ℕ) (now : Outcome) : Type 0 where
+record AtWork (reader : ℕ) (now : Outcome) : Type 0 where
   pub fits : inRange (length (now .slots)) (now .panel) ≡ true
   pub known : reader ≤ 15
   pub held : reader < length (now .panel .readers)
@@ -118,33 +123,25 @@ takes-one reader now p e =
       transport (λ j. left reader (same j) + 1 ≤ left reader now) (less reader (now .panel) (now .slots) (p .fits) (p .known) (p .held) works),
     )
 
-pub stays-at-work : (reader : ℕ) (now : Outcome) → AtWork reader now → isUnderway (now .answer) ≡ true → AtWork reader (readerStep reader now)
+stays-at-work : (reader : ℕ) (now : Outcome) → AtWork reader now → isUnderway (now .answer) ≡ true → AtWork reader (readerStep reader now)
 stays-at-work reader now p e = takes-one reader now p e .0
 
--- what the three parts of a step come to for a reader whose work is kept beside the record
+-- a step of the record with this work put into it, from what the three parts of the step come to for this work
 module _ (panel : Record) (slots : List ℕ) (reader : ℕ) where
-  abbrev pub beside : ReaderWork → ReaderMove
+  abbrev beside : ReaderWork → ReaderMove
   beside work = readerAdvance (panel .m) (panel .reach) work (wordRead slots (readerAccess (panel .m) work))
 
-  module _ (work : ReaderWork) (answer : Answer) (p : AtWork reader (outcome (withWork panel reader work) slots answer)) where
-    same-work-beside : workOf (withWork panel reader work) reader ≡ work
-    unfolding withWork
-    same-work-beside = work-replaced panel reader work (omega (arith, p .held, length-set (panel .readers) reader (record { work = work })))
-
-    pub busy-beside : isUnderway answer ≡ not (isIdle work)
-    busy-beside = p .busy ∙ ap (λ (w : ReaderWork). not (isIdle w)) same-work-beside
-
-    pub step-beside : (next : ReaderMove) → isUnderway answer ≡ true → next ≡ beside work → readerStep reader (outcome (withWork panel reader work) slots answer) ≡ outcome (withWork panel reader (next .work)) slots (next .answer)
-    unfolding readerStep withWork move
-    step-beside next e same-move =
-        let works = not-true (isIdle (workOf (withWork panel reader work) reader)) (sym (p .busy) ∙ e) in
-        allowed reader (withWork panel reader work) slots (p .fits) (p .known) (p .held) works
-        ∙ ap (λ (w : ReaderWork). outcome (withWork (withWork panel reader work) reader (beside w .work)) slots (beside w .answer)) same-work-beside
-        ∙ ap (λ (after : Record). outcome after slots (beside work .answer)) (replaced-twice panel reader work (beside work .work))
-        ∙ ap (λ (m : ReaderMove). outcome (withWork panel reader (m .work)) slots (m .answer)) (sym same-move)
+  step-beside : (work : ReaderWork) (answer : Answer) → AtWork reader (outcome (withWork panel reader work) slots answer) → isUnderway answer ≡ true → readerStep reader (outcome (withWork panel reader work) slots answer) ≡ outcome (withWork panel reader (beside work .work)) slots (beside work .answer)
+  unfolding readerStep withWork move
+  step-beside work answer p e =
+      let works = not-true (isIdle (workOf (withWork panel reader work) reader)) (sym (p .busy) ∙ e) in
+      let same = work-replaced panel reader work (omega (arith, p .held, length-set (panel .readers) reader (record { work = work }))) in
+      allowed reader (withWork panel reader work) slots (p .fits) (p .known) (p .held) works
+      ∙ ap (λ (w : ReaderWork). outcome (withWork (withWork panel reader work) reader (beside w .work)) slots (beside w .answer)) same
+      ∙ ap (λ (after : Record). outcome after slots (beside work .answer)) (replaced-twice panel reader work (beside work .work))
 
 -- a reader that is given work
-pub given-work : (panel : Record) (slots : List ℕ) (reader : ℕ) (work : ReaderWork) (answer : Answer) → inRange (length slots) (withWork panel reader work) ≡ true → reader ≤ 15 → length (panel .readers) ≡ 16 → isIdle work ≡ false → isUnderway answer ≡ true → AtWork reader (outcome (withWork panel reader work) slots answer)
+given-work : (panel : Record) (slots : List ℕ) (reader : ℕ) (work : ReaderWork) (answer : Answer) → inRange (length slots) (withWork panel reader work) ≡ true → reader ≤ 15 → length (panel .readers) ≡ 16 → isIdle work ≡ false → isUnderway answer ≡ true → AtWork reader (outcome (withWork panel reader work) slots answer)
 unfolding withWork
 given-work panel slots reader work answer fits known sixteen works e =
     record {
@@ -178,10 +175,10 @@ module _ (panel : Record) (slots : List ℕ) (reader point : ℕ) (e : lookupRef
         idle-work (workOf panel reader) (not-false (isIdle (workOf panel reader)) (after-4 .0)),
       )
 
-  pub known-reader : reader ≤ 15
+  known-reader : reader ≤ 15
   known-reader = judged .1
 
-  pub begun-fits : inRange (length slots) (withWork panel reader (LookingUp (record { point = point; search = Unread }))) ≡ true
+  begun-fits : inRange (length slots) (withWork panel reader (LookingUp (record { point = point; search = Unread }))) ≡ true
   unfolding workInRange lookupInRange searchInRange
   begun-fits = with-work-in-range (length slots) panel (judged .0) reader _ (both-true (validPoint point) true (judged .2) refl)
 
@@ -205,10 +202,52 @@ whole-lookup-ends panel slots reader point h = go (lookupRefusal (length slots) 
         (begins-with panel slots reader point e h)
     go (suc n) e = ap (λ (after : Outcome). isUnderway (after .answer)) (has-ended (readerStep reader) (panel .k + 1) (outcome panel slots (refused (suc n))) refl)
 
--- "leaves that party idle": the reader's work is again what it was, so the record is
-pub leaves-record : (panel : Record) (slots : List ℕ) (reader point : ℕ) (work : ReaderWork) (answer : Answer) → length (panel .readers) ≡ 16 → lookupRefusal (length slots) panel reader point ≡ 0 → isUnderway answer ≡ not (isIdle work) → outcome (withWork panel reader work) slots answer ≡ wholeLookup panel slots reader point → outcome panel slots answer ≡ wholeLookup panel slots reader point
-leaves-record panel slots reader point work answer sixteen e busy same =
-    let ended = ap (λ (now : Outcome). isUnderway (now .answer)) same ∙ whole-lookup-ends panel slots reader point sixteen in
-    let idle = idle-work work (not-false (isIdle work) (sym busy ∙ ended)) in
-    let before = ap (withWork panel reader) idle ∙ same-work panel reader Idle (judged panel slots reader point e .3) in
-    ap (λ (after : Record). outcome after slots answer) (sym before) ∙ same
+-- ---- a whole lookup from its search: the reader is idle again, so the record is what it was
+module _ (panel : Record) (slots : List ℕ) (reader point : ℕ) (sixteen : length (panel .readers) ≡ 16) (e : lookupRefusal (length slots) panel reader point ≡ 0) where
+  -- the lookup with this search underway, and after the step that answers it
+  abbrev going : Search → Outcome
+  going search = outcome (withWork panel reader (LookingUp (record { point = point; search = search }))) slots underway
+
+  abbrev answered : SearchAnswer → Outcome
+  answered answer = outcome (withWork panel reader Idle) slots (lookupAnswer answer)
+
+  as-it-stands : (stands : Searched) → outcome (withWork panel reader (lookupMove point stands .work)) slots (lookupMove point stands .answer) ≡ standing going answered stands
+  unfolding lookupMove
+  as-it-stands (Going search) = refl
+  as-it-stands (Answered answer) = refl
+
+  takes : (search : Search) → AtWork reader (going search) → readerStep reader (going search) ≡ standing going answered (searchAdvance (panel .reach) point search (wordRead slots (searchAccess (panel .m) point search)))
+  unfolding isUnderway readerAdvance lookupAdvance readerAccess
+  takes search p =
+      step-beside panel slots reader (LookingUp (record { point = point; search = search })) underway p refl
+      ∙ as-it-stands (searchAdvance (panel .reach) point search (wordRead slots (searchAccess (panel .m) point search)))
+
+  -- whether the call before said "started" or "underway" makes no difference
+  same-start : untilEnded (readerStep reader) (panel .k + 1) (going Unread) ≡ wholeLookup panel slots reader point
+  unfolding wholeLookup startLookup startReader isUnderway readerStep
+  same-start =
+      let begun = outcome (withWork panel reader (LookingUp (record { point = point; search = Unread }))) slots started in
+      same-step (readerStep reader) (panel .k + 1) (going Unread) begun (omega arith) refl refl refl
+      ∙ ap (untilEnded (readerStep reader) (panel .k + 1)) (sym (ap (λ (n : ℕ). unlessRefused n panel slots begun) e ∙ allowed-outcome panel slots begun))
+
+  not-underway : (answer : SearchAnswer) → isUnderway (lookupAnswer answer) ≡ false
+  unfolding lookupAnswer isUnderway
+  not-underway (Found place) = refl
+  not-underway Unknown = refl
+
+  pub looks-up : outcome panel slots (lookupAnswer (searchEnd slots (panel .m) point (panel .reach) (suc (panel .reach)) Unread)) ≡ wholeLookup panel slots reader point
+  unfolding isUnderway isIdle searchInRange searchLeft
+  looks-up =
+      let found = searchEnd slots (panel .m) point (panel .reach) (suc (panel .reach)) Unread in
+      let at-work = given-work panel slots reader (LookingUp (record { point = point; search = Unread })) underway (begun-fits panel slots reader point e) (known-reader panel slots reader point e) sixteen refl refl in
+      let ends = ap (λ (now : Outcome). isUnderway (now .answer)) same-start ∙ whole-lookup-ends panel slots reader point sixteen in
+      let comes =
+      search-comes (readerStep reader) (AtWork reader) slots (panel .m) point (panel .reach) (stays-at-work reader) going answered (λ search. refl) takes
+      (suc (panel .reach)) Unread (panel .k + 1) at-work refl (omega arith) ends in
+      ap (λ (after : Record). outcome after slots (lookupAnswer found)) (sym (same-work panel reader Idle (judged panel slots reader point e .3)))
+      ∙ sym (has-ended (readerStep reader) (panel .k + 1) (answered found) (not-underway found))
+      ∙ sym (comes .same)
+      ∙ same-start
+
+  pub reach-fits : panel .reach ≤ 64
+  reach-fits = reach-high (length slots) panel (judged panel slots reader point e .0)

@@ -21,8 +21,10 @@ use Rattle.answers.proofs.AnswerLaws.{refused-outcome, allowed-outcome}
 use Rattle.moves.specs.Moves.{isIdle}
 use Rattle.writer.specs.Starts.{startRefusal, startWriter}
 use Rattle.writer.specs.WriterFacts.{Begun}
+use Rattle.writer.proofs.WriterLaws.{AtWork}
 use Rattle.whole_operations.specs.Whole.{untilEnded, writerStep}
 use Rattle.whole_operations.proofs.WholeLaws.{has-ended, same-step}
+use Rattle.whole_operations.proofs.WholeSearch.{reach-high}
 
 idle-work : (work : WriterWork) → isIdle work ≡ true → work ≡ Idle
 unfolding isIdle
@@ -46,24 +48,40 @@ module _ (panel : Record) (slots : List ℕ) (point : ℕ) (work : WriterWork) (
     unfolding startWriter begun
     allowed = ap (λ (n : ℕ). unlessRefused n panel slots begun) e ∙ allowed-outcome panel slots begun
 
-    was-idle : panel .writer ≡ Idle
+    judged : (inRange (length slots) panel ≡ true) × (panel .writer ≡ Idle)
     unfolding startRefusal
-    was-idle =
+    judged =
         let after-1 = not-refused (not (inRange (length slots) panel)) 1 _ (omega arith) e in
         let after-2 = not-refused (not (validPoint point)) 2 _ (omega arith) (after-1 .1) in
-        let after-4 = not-refused (not (isIdle (panel .writer))) 4 0 (omega arith) (after-2 .1) in
-        idle-work (panel .writer) (not-false (isIdle (panel .writer)) (after-4 .0))
+        let after-4 = not-refused (not (isIdle (panel .writer))) 4 0 (omega arith) (after-2 .1) in (
+          not-false (inRange (length slots) panel) (after-1 .0),
+          idle-work (panel .writer) (not-false (isIdle (panel .writer)) (after-4 .0)),
+        )
+
+    pub reach-fits : panel .reach ≤ 64
+    reach-fits = reach-high (length slots) panel (judged .0)
 
     pub begun-fits : Begun (startWriter panel slots point work) → inRange (length slots) (withWriter panel work) ≡ true
     unfolding isUnderway begun
     begun-fits h = subst Begun allowed h .fits refl
 
+    pub begun-at-work : Begun (startWriter panel slots point work) → isIdle work ≡ false → AtWork (outcome (withWriter panel work) slots underway)
+    unfolding withWriter isUnderway
+    begun-at-work h working = record { fits = begun-fits h; busy = ap not (sym working) }
+
+    -- whether the call before said "started" or "underway" makes no difference
+    same-start : 1 ≤ budget → untilEnded writerStep budget (outcome (withWriter panel work) slots underway) ≡ untilEnded writerStep budget (startWriter panel slots point work)
+    unfolding isUnderway begun writerStep
+    same-start h =
+        same-step writerStep budget (outcome (withWriter panel work) slots underway) begun h refl refl refl
+        ∙ ap (untilEnded writerStep budget) (sym allowed)
+
+    pub begun-ends : 1 ≤ budget → isUnderway (untilEnded writerStep budget (startWriter panel slots point work) .answer) ≡ false → isUnderway (untilEnded writerStep budget (outcome (withWriter panel work) slots underway) .answer) ≡ false
+    begun-ends h ends = ap (λ (now : Outcome). isUnderway (now .answer)) (same-start h) ∙ ends
+
     pub run-ended : (after : Record) (last : WriterWork) (stored : List ℕ) (answer : Answer) → after .writer ≡ panel .writer → 1 ≤ budget → isUnderway answer ≡ not (isIdle last) → isUnderway (untilEnded writerStep budget (startWriter panel slots point work) .answer) ≡ false → outcome (withWriter after last) stored answer ≡ untilEnded writerStep budget (outcome (withWriter panel work) slots underway) → outcome after stored answer ≡ untilEnded writerStep budget (startWriter panel slots point work)
-    unfolding withWriter isUnderway begun writerStep
+    unfolding withWriter
     run-ended after last stored answer same-writer h busy ends ran =
-        let same =
-        ran
-        ∙ same-step writerStep budget (outcome (withWriter panel work) slots underway) begun h refl refl refl
-        ∙ ap (untilEnded writerStep budget) (sym allowed) in
+        let same = ran ∙ same-start h in
         let idle = idle-work last (not-false (isIdle last) (sym busy ∙ ap (λ (now : Outcome). isUnderway (now .answer)) same ∙ ends)) in
-        ap (λ (w : WriterWork). outcome (withWriter after w) stored answer) (same-writer ∙ was-idle ∙ sym idle) ∙ same
+        ap (λ (w : WriterWork). outcome (withWriter after w) stored answer) (same-writer ∙ judged .1 ∙ sym idle) ∙ same

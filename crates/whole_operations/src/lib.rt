@@ -4,6 +4,7 @@ mod budget;
 mod lookup;
 mod put_and_change;
 mod removing;
+mod searching;
 mod written;
 
 pub use lookup::whole_lookup;

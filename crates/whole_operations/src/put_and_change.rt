@@ -5,22 +5,25 @@ ghost use mathlib.Core.Bool.{true, false, not};
 ghost use mathlib.Core.Path.{_≡_};
 ghost use lib.ListN.{length};
 ghost use Rattle.record.specs.Parts.{withReach, withWriter};
+ghost use Rattle.record.specs.declared.Search.the-variants.{Unread};
 ghost use Rattle.record_ranges.specs.Ranges.{inRange};
-ghost use Rattle.answers.specs.Answers.{paperWriter, isUnderway, outcome, underway};
+ghost use Rattle.answers.specs.Answers.{paperWriter, isUnderway, outcome};
 ghost use Rattle.moves.specs.Moves.{isIdle, paperMoved, updated};
 ghost use Rattle.writer.specs.Step.{writerAccess, writerAdvance};
 ghost use Rattle.writer.specs.Starts.{startWriter};
 ghost use Rattle.writer.specs.WriterFacts.{Begun};
 ghost use Rattle.whole_operations.specs.Whole.{untilEnded, writerStep, wholePut, wholeChange, leaves};
-ghost use Rattle.whole_operations.specs.WholeFacts.{putsOrChanges, indexCounted};
-use crate::budget::left_after;
+ghost use Rattle.whole_operations.specs.WholeFacts.{putsOrChanges, indexCounted, answeredBy, searchingBy, pointOfWork};
+use crate::budget::while_underway;
+use crate::searching::whole_search;
 use crate::written::Ran;
 use crate::written::Written;
 use crate::written::goes_on;
-use crate::written::refused;
+use crate::written::unchanged;
 use answers::WriterAnswer;
 use change::change_access;
 use change::change_advance;
+use change::change_answered;
 use moves::counts::one_more;
 use moves::memory::WriterAccess;
 use moves::memory::perform;
@@ -29,6 +32,7 @@ use moves::update::Update;
 use moves::update::ended;
 use put::put_access;
 use put::put_advance;
+use put::put_answered;
 use record::Alteration;
 use record::Change;
 use record::ChangeStage;
@@ -40,6 +44,7 @@ use record::Search;
 use record::WriterWork;
 use refusal::Judged;
 use refusal::Refusal;
+use search::SearchAnswer;
 use search::access::ReadAccess;
 use writer::judge_start;
 
@@ -95,17 +100,18 @@ fn index_counted(update: Update) -> u32
     }
 }
 
-// Steps of a put or a change, to the end or as many as the budget allows. The record was judged when the
-// operation was started, and every step keeps it in range, so that no step needs to judge it again.
-fn steps(panel: Record, slots: &mut [u64], begun: WriterWork, budget: u64) -> Ran
-    requires { ⌜ (inRange (length (now slots)) (withWriter panel begun) ≡ true) × (isIdle begun ≡ false) × (putsOrChanges begun ≡ true) ⌝ }
-    ensures { λ r. ⌜ (outcome (withWriter (leaves panel (r .written)) (r .work)) (now (slots .exit)) (paperWriter (r .written .answer)) ≡ untilEnded writerStep budget (outcome (withWriter panel begun) (now (slots .entry)) underway)) × (isUnderway (paperWriter (r .written .answer)) ≡ not (isIdle (r .work))) ⌝ }
+// The steps that are left of a put or a change, if any are, to the end or as many as the budget allows. The
+// record was judged when the operation was started, and every step keeps it in range, so that no step
+// needs to judge it again.
+fn steps(panel: Record, slots: &mut [u64], begun: Moved, budget: u64) -> Ran
+    requires { ⌜ (inRange (length (now slots)) (withWriter panel (begun .work)) ≡ true) × (isUnderway (paperWriter (begun .answer)) ≡ not (isIdle (begun .work))) × (putsOrChanges (begun .work) ≡ true) ⌝ }
+    ensures { λ r. ⌜ (outcome (withWriter (leaves panel (r .written)) (r .work)) (now (slots .exit)) (paperWriter (r .written .answer)) ≡ untilEnded writerStep budget (outcome (withWriter panel (begun .work)) (now (slots .entry)) (paperWriter (begun .answer)))) × (isUnderway (paperWriter (r .written .answer)) ≡ not (isIdle (r .work))) ⌝ }
 {
     let mut reach = panel.reach;
     let mut index = 0;
-    let mut work = begun;
-    let mut answer = WriterAnswer::Underway;
-    let mut left = budget;
+    let mut work = begun.work;
+    let mut answer = begun.answer;
+    let mut left = while_underway(budget, goes_on(answer));
     while 0 < left {
         let word = perform(slots, access(panel, reach, work));
         let next = advance(panel, reach, work, word);
@@ -114,7 +120,7 @@ fn steps(panel: Record, slots: &mut [u64], begun: WriterWork, budget: u64) -> Ra
         let update = next.update;
         reach = reach_after(panel, reach, update);
         index = index_counted(update);
-        left = left_after(left, goes_on(answer));
+        left = while_underway(left - 1, goes_on(answer));
     }
     Ran {
         written: Written {
@@ -127,15 +133,29 @@ fn steps(panel: Record, slots: &mut [u64], begun: WriterWork, budget: u64) -> Ra
     }
 }
 
+// What the search's answer leads to.
+fn answered(work: WriterWork, answer: SearchAnswer) -> Moved
+    requires { ⌜ putsOrChanges work ≡ true ⌝ }
+    ensures { λ r. ⌜ paperMoved r ≡ answeredBy work answer ⌝ }
+{
+    match work {
+        WriterWork::Idle => ended(Update::Nothing, WriterAnswer::Refused(Refusal::Idle)),
+        WriterWork::Putting(put) => put_answered(put, answer),
+        WriterWork::Changing(change) => change_answered(change, answer),
+        WriterWork::Removing(_) => ended(Update::Nothing, WriterAnswer::Refused(Refusal::Idle)),
+    }
+}
+
 // The operation started, unless it is refused, and run to its end.
 fn whole(panel: Record, slots: &mut [u64], point: u32, work: WriterWork, budget: u64) -> Written
-    requires { ⌜ (1 ≤ budget) × (isIdle work ≡ false) × (putsOrChanges work ≡ true) × Begun (startWriter panel (now slots) point work) × (isUnderway (untilEnded writerStep budget (startWriter panel (now slots) point work) .answer) ≡ false) ⌝ }
+    requires { ⌜ (1 ≤ budget) × (isIdle work ≡ false) × (putsOrChanges work ≡ true) × (searchingBy work Unread ≡ work) × (pointOfWork work ≡ point) × Begun (startWriter panel (now slots) point work) × (isUnderway (untilEnded writerStep budget (startWriter panel (now slots) point work) .answer) ≡ false) ⌝ }
     ensures { λ r. ⌜ outcome (leaves panel r) (now (slots .exit)) (paperWriter (r .answer)) ≡ untilEnded writerStep budget (startWriter panel (now (slots .entry)) point work) ⌝ }
 {
     match judge_start(panel, slots.len(), point) {
-        Judged::Refused(refusal) => refused(panel, refusal),
+        Judged::Refused(refusal) => unchanged(panel, WriterAnswer::Refused(refusal)),
         Judged::Allowed => {
-            let ran = steps(panel, slots, work, budget);
+            let answer = whole_search(slots, panel.m, point, panel.reach);
+            let ran = steps(panel, slots, answered(work, answer), budget);
             ran.written
         }
     }

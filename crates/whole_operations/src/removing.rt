@@ -4,26 +4,28 @@ ghost use mathlib.Core.Path.{_≡_};
 ghost use lib.ListN.{length};
 ghost use Rattle.record.specs.Parts.{withWriter};
 ghost use Rattle.record_ranges.specs.Ranges.{inRange};
-ghost use Rattle.answers.specs.Answers.{paperWriter, isUnderway, outcome, underway};
+ghost use Rattle.answers.specs.Answers.{paperWriter, isUnderway, outcome};
 ghost use Rattle.moves.specs.Moves.{isIdle};
 ghost use Rattle.whole_operations.specs.Whole.{untilEnded, writerStep, wholeRemoval, leaves};
-ghost use Rattle.whole_operations.specs.WholeFacts.{indexUncounted, isToRemove};
-use crate::budget::left_after;
+ghost use Rattle.whole_operations.specs.WholeFacts.{indexUncounted, removes};
+use crate::budget::while_underway;
+use crate::searching::whole_search;
 use crate::written::Ran;
 use crate::written::Written;
 use crate::written::goes_on;
-use crate::written::refused;
+use crate::written::unchanged;
 use answers::WriterAnswer;
 use moves::memory::perform;
+use moves::update::Moved;
 use moves::update::Update;
 use moves::update::with_update;
 use record::Record;
 use record::Removal;
 use record::RemovalStage;
 use record::Search;
-use record::WriterWork;
 use record::parts::count_of;
 use refusal::Judged;
+use removal::removal_answered;
 use writer::judge_start;
 use writer::writer_access;
 use writer::writer_advance;
@@ -41,17 +43,18 @@ fn index_uncounted(index: u32, update: Update) -> u32
     }
 }
 
-// Steps of a removal, to the end or as many as the budget allows. The record was judged when the
-// removal was started, and every step keeps it in range, so that no step needs to judge it again.
-fn steps(panel: Record, slots: &mut [u64], begun: WriterWork, budget: u64) -> Ran
-    requires { ⌜ (inRange (length (now slots)) (withWriter panel begun) ≡ true) × (isToRemove begun ≡ true) ⌝ }
-    ensures { λ r. ⌜ (outcome (withWriter (leaves panel (r .written)) (r .work)) (now (slots .exit)) (paperWriter (r .written .answer)) ≡ untilEnded writerStep budget (outcome (withWriter panel begun) (now (slots .entry)) underway)) × (isUnderway (paperWriter (r .written .answer)) ≡ not (isIdle (r .work))) ⌝ }
+// The steps that are left of a removal, if any are, to the end or as many as the budget allows. The record
+// was judged when the removal was started, and every step keeps it in range, so that no step needs to
+// judge it again.
+fn steps(panel: Record, slots: &mut [u64], begun: Moved, budget: u64) -> Ran
+    requires { ⌜ (inRange (length (now slots)) (withWriter panel (begun .work)) ≡ true) × (isUnderway (paperWriter (begun .answer)) ≡ not (isIdle (begun .work))) × (removes (begun .work) ≡ true) ⌝ }
+    ensures { λ r. ⌜ (outcome (withWriter (leaves panel (r .written)) (r .work)) (now (slots .exit)) (paperWriter (r .written .answer)) ≡ untilEnded writerStep budget (outcome (withWriter panel (begun .work)) (now (slots .entry)) (paperWriter (begun .answer)))) × (isUnderway (paperWriter (r .written .answer)) ≡ not (isIdle (r .work))) ⌝ }
 {
     let mut held = panel;
     let mut index = 0;
-    let mut work = begun;
-    let mut answer = WriterAnswer::Underway;
-    let mut left = budget;
+    let mut work = begun.work;
+    let mut answer = begun.answer;
+    let mut left = while_underway(budget, goes_on(answer));
     while 0 < left {
         let word = perform(slots, writer_access(held, work));
         let next = writer_advance(held, work, word);
@@ -62,7 +65,7 @@ fn steps(panel: Record, slots: &mut [u64], begun: WriterWork, budget: u64) -> Ra
             held = with_update(held, update);
         }
         index = index_uncounted(index, update);
-        left = left_after(left, goes_on(answer));
+        left = while_underway(left - 1, goes_on(answer));
     }
     Ran {
         written: Written {
@@ -80,14 +83,15 @@ pub fn whole_removal(panel: Record, slots: &mut [u64], point: u32) -> Written
     ensures { λ r. ⌜ outcome (leaves panel r) (now (slots .exit)) (paperWriter (r .answer)) ≡ wholeRemoval panel (now (slots .entry)) point ⌝ }
 {
     let budget = panel.k as u64 + 3;
-    let work = WriterWork::Removing(Removal {
+    let removal = Removal {
         point: point,
         stage: RemovalStage::Searching(Search::Unread),
-    });
+    };
     match judge_start(panel, slots.len(), point) {
-        Judged::Refused(refusal) => refused(panel, refusal),
+        Judged::Refused(refusal) => unchanged(panel, WriterAnswer::Refused(refusal)),
         Judged::Allowed => {
-            let ran = steps(panel, slots, work, budget);
+            let answer = whole_search(slots, panel.m, point, panel.reach);
+            let ran = steps(panel, slots, removal_answered(removal, answer), budget);
             ran.written
         }
     }

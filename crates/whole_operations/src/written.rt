@@ -1,14 +1,12 @@
 // What a whole operation of the writer comes to.
 ghost use mathlib.Core.Path.{_≡_};
-ghost use Rattle.refusal.specs.Refusals.{numberOf};
-ghost use Rattle.answers.specs.Answers.{paperWriter, isUnderway, refused};
+ghost use Rattle.answers.specs.Answers.{paperWriter, isUnderway};
 ghost use Rattle.whole_operations.specs.Whole.{leaves};
 use answers::WriterAnswer;
 use record::Record;
 use record::WriterWork;
 use record::parts::with_count;
 use record::parts::with_reach;
-use refusal::Refusal;
 
 // What the operation leaves in the record, and its answer. The writer is idle again.
 pub struct Written {
@@ -37,15 +35,15 @@ pub fn with_written(panel: Record, written: Written) -> Record
     )
 }
 
-// A refused operation leaves all as it was.
-pub(crate) fn refused(panel: Record, refusal: Refusal) -> Written
-    ensures { λ r. ⌜ (leaves panel r ≡ panel) × (paperWriter (r .answer) ≡ refused (numberOf refusal)) ⌝ }
+// An answer that leaves the record as it was.
+pub(crate) fn unchanged(panel: Record, answer: WriterAnswer) -> Written
+    ensures { λ r. ⌜ (leaves panel r ≡ panel) × (r .answer ≡ answer) ⌝ }
 {
     Written {
         reach: panel.reach,
         index: 0,
         count: 0,
-        answer: WriterAnswer::Refused(refusal),
+        answer: answer,
     }
 }
 

@@ -2,19 +2,19 @@
 -- reach and the index that are kept beside it.
 -- Assumes nothing.
 use Prim.Native.Nat.{ℕ, _-_, _≤_}
-use mathlib.Core.Bool.{Bool, true, cond, not}
-use mathlib.Core.Path.{_≡_, refl, _∙_, sym, ap}
+use mathlib.Core.Bool.{Bool, true, cond}
+use mathlib.Core.Path.{_≡_, refl, _∙_, ap}
 use native.Mathlib.Omega.{arith}
 use borrow.Author.Needs.{needs}
 use lib.ListN.{length}
 use Rattle.record.specs.Parts.{withReach, withNumbered, withCount, withWriter, countOf}
-use Rattle.answers.specs.Answers.{underway, isUnderway, outcome, paperWriter}
+use Rattle.answers.specs.Answers.{isUnderway, outcome, paperWriter}
 use Rattle.moves.specs.Counts.{counted}
 use Rattle.moves.specs.Moves.{paperMoved}
 use Rattle.writer.proofs.WriterLaws.{slots-length, AtWork}
 use Rattle.whole_operations.specs.Whole.{writerStep, leaves}
 use Rattle.whole_operations.specs.WholeFacts.{putsOrChanges}
-use Rattle.whole_operations.proofs.WholeLaws.{fewer, still, OnTheWay, arrives, moves-on}
+use Rattle.whole_operations.proofs.WholeLaws.{fewer, still, OnTheWay, sets-out, arrives, moves-on}
 use Rattle.whole_operations.proofs.WholeEnds.{stays-at-work}
 use Rattle.whole_operations.proofs.PutsAndChanges.{move-adds, step-kept}
 use Rattle.whole_operations.proofs.put_and_change.steps.Statement.{statement}
@@ -23,7 +23,7 @@ use Rattle.whole_operations.proofs.put_and_change.steps.Tie as tie
 abbrev Inv-loop : tie.InvT-loop
 Inv-loop panel slots₀ budget reach₀ index₀ work₀ answer₀ left₀ slots reach index work answer left =
     (length slots ≡ length slots₀)
-    × OnTheWay writerStep AtWork (outcome (withWriter panel work₀) slots₀ underway) budget left
+    × OnTheWay writerStep AtWork (outcome (withWriter panel work₀) slots₀ (paperWriter answer₀)) budget left
     (outcome (withWriter (counted (withReach panel reach) index) work) slots (paperWriter answer))
     × (1 ≤ left → index ≡ 0)
     × (putsOrChanges work ≡ true)
@@ -31,14 +31,23 @@ Inv-loop panel slots₀ budget reach₀ index₀ work₀ answer₀ left₀ slots
 abbrev μ-loop : tie.MeasureT-loop
 μ-loop panel slots₀ budget reach₀ index₀ work₀ answer₀ left₀ slots reach index work answer left = left
 
+goes-on-requires : tie.Need-goes-on-requires Inv-loop μ-loop
+goes-on-requires c κs = search needs
+
+while-underway-requires : tie.Need-while-underway-requires Inv-loop μ-loop
+while-underway-requires c κs = search needs
+
 loop-holds : tie.Need-loop-holds Inv-loop μ-loop
-unfolding isUnderway withWriter withReach counted withCount withNumbered
-loop-holds c = (
-  refl,
-  record { holds = record { fits = c .before .pre .0; busy = ap not (sym (c .before .pre .1)) }; goes = λ h. refl; same = refl },
-  λ h. refl,
-  c .before .pre .2,
-)
+unfolding withWriter withReach counted withCount withNumbered
+loop-holds c =
+    let start = c .before .before .before in
+    let a = start .args in (
+      refl,
+      sets-out writerStep AtWork _ (a .budget) _ (record { fits = start .pre .0; busy = start .pre .1 })
+          (c .while-underway .ensures ∙ ap (λ (b : Bool). cond b (a .budget) 0) (c .before .goes-on .ensures)),
+      λ h. refl,
+      start .pre .2,
+    )
 
 access-requires : tie.Need-access-requires Inv-loop μ-loop
 access-requires c κs = c .before .before .loop .inv .3
@@ -55,18 +64,21 @@ reach-after-requires c κs = search needs
 index-counted-requires : tie.Need-index-counted-requires Inv-loop μ-loop
 index-counted-requires c κs = search needs
 
-goes-on-requires : tie.Need-goes-on-requires Inv-loop μ-loop
-goes-on-requires c κs = search needs
+sub-while-underway : tie.Need-sub-while-underway Inv-loop μ-loop
+sub-while-underway c = omega (arith, c .before .before .before .before .before .before .before .before .loop-test)
 
-left-after-requires : tie.Need-left-after-requires Inv-loop μ-loop
-left-after-requires c κs = omega (arith, c .before .before .before .before .before .before .before .before .before .loop-test)
+goes-on-requires-2 : tie.Need-goes-on-requires-2 Inv-loop μ-loop
+goes-on-requires-2 c κs = search needs
+
+while-underway-requires-2 : tie.Need-while-underway-requires-2 Inv-loop μ-loop
+while-underway-requires-2 c κs = search needs
 
 loop-less : tie.Need-loop-less Inv-loop μ-loop
-loop-less c = fewer (c .before .before .before .before .before .before .before .before .before .before .before .loop .left) _ (c .before .goes-on .result) (omega (arith, c .before .before .before .before .before .before .before .before .before .before .loop-test)) (c .left-after .ensures)
+loop-less c = fewer (c .before .before .before .before .before .before .before .before .before .before .before .loop .left) _ (c .before .goes-on2 .result) (omega (arith, c .before .before .before .before .before .before .before .before .before .before .loop-test)) (c .while-underway2 .ensures)
 
 loop-again : tie.Need-loop-again Inv-loop μ-loop
 loop-again c =
-    let a = c .before .before .before .before .before .before .before .before .before .before .before .before .before .args in
+    let a = c .before .before .before .before .before .before .before .before .before .before .before .before .before .before .before .args in
     let l = c .before .before .before .before .before .before .before .before .before .before .before .loop in
     let more = c .before .before .before .before .before .before .before .before .before .before .loop-test in
     let none = l .inv .2 (omega arith) in
@@ -76,7 +88,7 @@ loop-again c =
     step-kept (a .panel) (l .reach) (l .index) _ _ (l .slots) _ (l .work) (paperWriter (l .answer)) _ _ (paperMoved (move .result)) none adds
     (l .inv .1 .holds) (l .inv .1 .goes (omega arith)) (c .before .before .before .before .before .before .before .before .access .ensures) (c .before .before .before .before .before .before .before .perform .ensures .0) (c .before .before .before .before .before .before .before .perform .ensures .1) (move .ensures)
     (c .before .before .before .reach-after .ensures) (c .before .before .index-counted .ensures) in
-    let next = c .left-after .ensures ∙ ap (λ (b : Bool). cond b (l .left - 1) 0) (c .before .goes-on .ensures) in (
+    let next = c .while-underway2 .ensures ∙ ap (λ (b : Bool). cond b (l .left - 1) 0) (c .before .goes-on2 .ensures) in (
       ap length (c .before .before .before .before .before .before .before .perform .ensures .1) ∙ slots-length (l .slots) _ ∙ l .inv .0,
       moves-on writerStep AtWork stays-at-work _ _ (l .left) _ (l .inv .1) (omega arith) _ takes _ next,
       λ h. c .before .before .index-counted .ensures ∙ adds .last (still (isUnderway (paperWriter (move .result .answer))) _ _ next h),
@@ -92,7 +104,7 @@ same-length c = c .before .before .loop .inv .0
 returns : tie.Need-returns Inv-loop μ-loop
 unfolding leaves counted withReach withWriter withCount countOf
 returns c =
-    let a = c .before .before .before .before .args in
+    let a = c .before .before .before .before .before .before .args in
     let l = c .before .before .loop in (
       ap (λ (count : ℕ). outcome (withWriter (withCount (withReach (a .panel) (l .reach)) (l .index) count) (l .work)) (l .slots) (paperWriter (l .answer))) (c .one-more .ensures)
           ∙ arrives writerStep AtWork stays-at-work _ _ (l .left) _ (l .inv .1) (omega (arith, c .before .loop-test)),
@@ -105,14 +117,17 @@ steps-spec =
     (tie.spec
     Inv-loop
     μ-loop
+    goes-on-requires
+    while-underway-requires
     loop-holds
     access-requires
     perform-requires
     advance-requires
     reach-after-requires
     index-counted-requires
-    goes-on-requires
-    left-after-requires
+    sub-while-underway
+    goes-on-requires-2
+    while-underway-requires-2
     loop-less
     loop-again
     one-more-requires

@@ -8,7 +8,7 @@ use Rattle.moves.specs.Moves.{isIdle}
 use Rattle.writer.specs.Starts.{startPut}
 use Rattle.writer.proofs.WriterLaws.{put-begins}
 use Rattle.whole_operations.specs.Whole.{wholePut}
-use Rattle.whole_operations.specs.WholeFacts.{putsOrChanges}
+use Rattle.whole_operations.specs.WholeFacts.{putsOrChanges, pointOfWork, searchingBy}
 use Rattle.whole_operations.proofs.WholeEnds.{whole-put-ends}
 use Rattle.whole_operations.proofs.put_and_change.whole_put.Statement.{statement}
 use Rattle.whole_operations.proofs.put_and_change.whole_put.Tie as tie
@@ -23,11 +23,11 @@ add-budget : tie.Need-add-budget
 add-budget c = search needs
 
 whole-requires : tie.Need-whole-requires
-unfolding wholePut startPut isIdle putsOrChanges
+unfolding wholePut startPut isIdle putsOrChanges searchingBy pointOfWork
 whole-requires c κs =
     let a = c .before .before .before .args in
     let s = now (a .slots) in
-    (omega arith, refl, refl, put-begins (a .panel) s (a .point) (a .value), whole-put-ends (a .panel) s (a .point) (a .value))
+    (omega arith, refl, refl, refl, refl, put-begins (a .panel) s (a .point) (a .value), whole-put-ends (a .panel) s (a .point) (a .value))
 
 same-length : tie.Need-same-length
 same-length c = search needs

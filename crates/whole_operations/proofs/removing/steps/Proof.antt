@@ -2,7 +2,7 @@
 -- one but for the reach and one count.
 -- Assumes nothing.
 use Prim.Native.Nat.{ℕ, _-_}
-use mathlib.Core.Bool.{Bool, cond, not}
+use mathlib.Core.Bool.{Bool, cond}
 use mathlib.Core.Logic.{⊎-elim}
 use mathlib.Core.Path.{_≡_, refl, _∙_, sym, ap, transport}
 use native.Mathlib.Omega.{arith}
@@ -10,39 +10,42 @@ use borrow.Author.Needs.{needs}
 use lib.ListN.{length}
 use Rattle.record.specs.declared.Record.{Record}
 use Rattle.record.specs.Parts.{withReach, withCount, withWriter}
-use Rattle.answers.specs.Answers.{underway, isUnderway, outcome, paperWriter}
+use Rattle.answers.specs.Answers.{outcome, paperWriter}
 use Rattle.moves.specs.Moves.{WriterMove, updated, paperMoved}
 use Rattle.writer.proofs.WriterLaws.{slots-length, AtWork, works}
 use Rattle.whole_operations.specs.Whole.{writerStep, leaves}
 use Rattle.whole_operations.specs.WholeFacts.{indexUncounted}
-use Rattle.whole_operations.proofs.WholeLaws.{fewer, OnTheWay, arrives, moves-on}
+use Rattle.whole_operations.proofs.WholeLaws.{fewer, OnTheWay, sets-out, arrives, moves-on}
 use Rattle.whole_operations.proofs.WholeEnds.{stays-at-work}
 use Rattle.whole_operations.proofs.WorkBeside.{step-beside}
-use Rattle.whole_operations.proofs.Removals.{Kept, begins-kept, to-remove-works, step-keeps}
+use Rattle.whole_operations.proofs.Removals.{Kept, begins-kept, step-keeps}
 use Rattle.whole_operations.proofs.removing.steps.Statement.{statement}
 use Rattle.whole_operations.proofs.removing.steps.Tie as tie
 
 abbrev Inv-loop : tie.InvT-loop
 Inv-loop slots₀ budget held₀ index₀ work₀ answer₀ left₀ slots held index work answer left =
     (length slots ≡ length slots₀)
-    × OnTheWay writerStep AtWork (outcome (withWriter held₀ work₀) slots₀ underway) budget left (outcome (withWriter held work) slots (paperWriter answer))
+    × OnTheWay writerStep AtWork (outcome (withWriter held₀ work₀) slots₀ (paperWriter answer₀)) budget left (outcome (withWriter held work) slots (paperWriter answer))
     × Kept held₀ held index work
 
 abbrev μ-loop : tie.MeasureT-loop
 μ-loop slots₀ budget held₀ index₀ work₀ answer₀ left₀ slots held index work answer left = left
 
+goes-on-requires : tie.Need-goes-on-requires Inv-loop μ-loop
+goes-on-requires c κs = search needs
+
+while-underway-requires : tie.Need-while-underway-requires Inv-loop μ-loop
+while-underway-requires c κs = search needs
+
 loop-holds : tie.Need-loop-holds Inv-loop μ-loop
-unfolding isUnderway withWriter
+unfolding withWriter
 loop-holds c =
-    let a = c .before .args in
-    let p = c .before .pre in (
+    let start = c .before .before .before in
+    let a = start .args in (
       refl,
-      record {
-        holds = record { fits = p .0; busy = ap not (sym (to-remove-works (a .begun) (p .1))) };
-        goes = λ h. refl;
-        same = refl;
-      },
-      begins-kept (a .panel) (a .begun) (p .1),
+      sets-out writerStep AtWork _ (a .budget) _ (record { fits = start .pre .0; busy = start .pre .1 })
+          (c .while-underway .ensures ∙ ap (λ (b : Bool). cond b (a .budget) 0) (c .before .goes-on .ensures)),
+      begins-kept (a .panel) (a .begun .work) (start .pre .2),
     )
 
 writer-access-requires : tie.Need-writer-access-requires Inv-loop μ-loop
@@ -63,19 +66,22 @@ with-update-requires c κs = search needs
 index-uncounted-requires : tie.Need-index-uncounted-requires Inv-loop μ-loop
 index-uncounted-requires c κs = search needs
 
-goes-on-requires : tie.Need-goes-on-requires Inv-loop μ-loop
-goes-on-requires c κs = search needs
+sub-while-underway : tie.Need-sub-while-underway Inv-loop μ-loop
+sub-while-underway c = omega (arith, c .before .before .before .before .before .before .before .before .loop-test)
 
-left-after-requires : tie.Need-left-after-requires Inv-loop μ-loop
-left-after-requires c κs = omega (arith, c .before .before .before .before .before .before .before .before .before .loop-test)
+goes-on-requires-2 : tie.Need-goes-on-requires-2 Inv-loop μ-loop
+goes-on-requires-2 c κs = search needs
+
+while-underway-requires-2 : tie.Need-while-underway-requires-2 Inv-loop μ-loop
+while-underway-requires-2 c κs = search needs
 
 loop-less : tie.Need-loop-less Inv-loop μ-loop
-loop-less c = fewer (c .before .before .before .before .before .before .before .before .before .before .before .loop .left) _ (c .before .goes-on .result) (omega (arith, c .before .before .before .before .before .before .before .before .before .before .loop-test)) (c .left-after .ensures)
+loop-less c = fewer (c .before .before .before .before .before .before .before .before .before .before .before .loop .left) _ (c .before .goes-on2 .result) (omega (arith, c .before .before .before .before .before .before .before .before .before .before .loop-test)) (c .while-underway2 .ensures)
 
 loop-again : tie.Need-loop-again Inv-loop μ-loop
 unfolding updated withWriter
 loop-again c =
-    let panel = c .before .before .before .before .before .before .before .before .before .before .before .before .before .args .panel in
+    let panel = c .before .before .before .before .before .before .before .before .before .before .before .before .before .before .before .args .panel in
     let l = c .before .before .before .before .before .before .before .before .before .before .before .loop in
     let more = c .before .before .before .before .before .before .before .before .before .before .loop-test in
     let stored = c .before .before .before .before .before .before .before .perform .ensures in
@@ -95,7 +101,7 @@ loop-again c =
     let index = c .before .before .index-uncounted .ensures ∙ ap (λ (m : WriterMove). indexUncounted (l .index) (m .update)) moves in (
       ap length (stored .1) ∙ slots-length (l .slots) _ ∙ l .inv .0,
       moves-on writerStep AtWork stays-at-work _ _ (l .left) _ (l .inv .1) (omega arith) _ takes _
-          (c .left-after .ensures ∙ ap (λ (b : Bool). cond b (l .left - 1) 0) (c .before .goes-on .ensures)),
+          (c .while-underway2 .ensures ∙ ap (λ (b : Bool). cond b (l .left - 1) 0) (c .before .goes-on2 .ensures)),
       transport (λ j. Kept panel (sym held j) (sym index j) (sym moves j .work)) kept,
     )
 
@@ -108,7 +114,7 @@ same-length c = c .before .before .loop .inv .0
 returns : tie.Need-returns Inv-loop μ-loop
 unfolding leaves withWriter
 returns c =
-    let a = c .before .before .before .before .args in
+    let a = c .before .before .before .before .before .before .args in
     let l = c .before .before .loop in
     let held = l .inv .2 .same ∙ ap (λ (count : ℕ). withCount (withReach (a .panel) (l .held .reach)) (l .index) count) (sym (c .count-of .ensures)) in (
       ap (λ (r : Record). outcome (withWriter r (l .work)) (l .slots) (paperWriter (l .answer))) (sym held)
@@ -122,6 +128,8 @@ steps-spec =
     (tie.spec
     Inv-loop
     μ-loop
+    goes-on-requires
+    while-underway-requires
     loop-holds
     writer-access-requires
     perform-requires
@@ -129,8 +137,9 @@ steps-spec =
     enum-told
     with-update-requires
     index-uncounted-requires
-    goes-on-requires
-    left-after-requires
+    sub-while-underway
+    goes-on-requires-2
+    while-underway-requires-2
     loop-less
     loop-again
     count-of-requires

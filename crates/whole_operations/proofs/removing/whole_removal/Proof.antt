@@ -1,4 +1,4 @@
--- `whole_operations::removing::whole_removal` meets its contract: refused, or stepped to the end.
+-- `whole_operations::removing::whole_removal` meets its contract: refused, or searched and then stepped to the end.
 -- Assumes nothing.
 use Prim.Native.Nat.{_+_}
 use mathlib.Core.Path.{refl, _∙_, sym, ap}
@@ -6,14 +6,21 @@ use native.Mathlib.Omega.{arith}
 use borrow.Author.Needs.{needs}
 use denote.Ref.{now}
 use Rattle.refusal.specs.Refusals.{paperJudged}
-use Rattle.record.specs.Parts.{withReach, withCount}
-use Rattle.answers.specs.Answers.{outcome}
+use Rattle.record.specs.declared.Search.the-variants.{Unread}
+use Rattle.record.specs.declared.Removal.{Removal}
+use Rattle.record.specs.declared.RemovalStage.the-variants.{Searching}
+use Rattle.record.specs.declared.WriterWork.the-variants.{Removing}
+use Rattle.record.specs.Parts.{withReach, withCount, withWriter}
+use Rattle.answers.specs.Answers.{outcome, paperWriter}
+use Rattle.moves.specs.Moves.{WriterMove, isIdle}
+use Rattle.removal.specs.Removal.{removalAnswered}
 use Rattle.writer.specs.Starts.{startRemoval}
 use Rattle.writer.proofs.WriterLaws.{removal-begins}
 use Rattle.whole_operations.specs.Whole.{wholeRemoval, leaves}
-use Rattle.whole_operations.specs.WholeFacts.{isBefore, isToRemove}
+use Rattle.whole_operations.specs.WholeFacts.{removes, pointOfWork, searchingBy, answeredBy}
 use Rattle.whole_operations.proofs.WholeEnds.{whole-removal-ends}
-use Rattle.whole_operations.proofs.WholeWriting.{begun-fits, run-refused, run-ended}
+use Rattle.whole_operations.proofs.WholeWriting.{reach-fits, run-refused}
+use Rattle.whole_operations.proofs.WriterSearch.{answered-removes, move-at-work, whole-ended}
 use Rattle.whole_operations.proofs.removing.whole_removal.Statement.{statement}
 use Rattle.whole_operations.proofs.removing.whole_removal.Tie as tie
 
@@ -29,19 +36,31 @@ judge-start-requires c κs = search needs
 enum-known-refusal : tie.Need-enum-known-refusal
 enum-known-refusal c = search needs
 
-refused-requires : tie.Need-refused-requires
-refused-requires c κs = search needs
+unchanged-requires : tie.Need-unchanged-requires
+unchanged-requires c κs = search needs
 
 enum-told : tie.Need-enum-told
 enum-told c = search needs
 
-steps-requires : tie.Need-steps-requires
-unfolding startRemoval isToRemove isBefore
-steps-requires c κs =
+whole-search-requires : tie.Need-whole-search-requires
+whole-search-requires c κs =
     let a = c .before .before .before .before .before .before .args in
-    let s = now (a .slots) in
     let e = sym (c .before .before .before .judge-start .ensures) ∙ ap paperJudged (c .before .enum-told .given .1) in
-    (begun-fits (a .panel) s (a .point) _ (a .panel .k + 3) e (removal-begins (a .panel) s (a .point)), refl)
+    reach-fits (a .panel) (now (a .slots)) (a .point) (Removing (record { point = a .point; stage = Searching Unread })) (a .panel .k + 3) e
+
+removal-answered-requires : tie.Need-removal-answered-requires
+removal-answered-requires c κs = search needs
+
+steps-requires : tie.Need-steps-requires
+unfolding wholeRemoval startRemoval isIdle searchingBy pointOfWork answeredBy withWriter
+steps-requires c κs =
+    let a = c .before .before .before .before .before .before .before .before .before .args in
+    let s = now (a .slots) in
+    let removal : Removal = record { point = a .point; stage = Searching Unread } in
+    let e = sym (c .before .before .before .before .before .before .judge-start .ensures) ∙ ap paperJudged (c .before .before .before .before .enum-told .given .1) in
+    let moves = c .removal-answered .ensures ∙ ap (removalAnswered removal) (c .before .before .whole-search .ensures) in
+    let held = move-at-work (a .panel) s (a .point) (Removing removal) (a .panel .k + 3) e (omega arith) refl (λ answer. answered-removes removal answer .0) refl refl (removal-begins (a .panel) s (a .point)) (whole-removal-ends (a .panel) s (a .point)) _ moves in
+    (held .fits, held .busy, ap (λ (m : WriterMove). removes (m .work)) moves ∙ answered-removes removal _ .1)
 
 returns : tie.Need-returns
 unfolding wholeRemoval startRemoval
@@ -49,20 +68,23 @@ returns c =
     let a = c .before .before .before .before .before .before .before .args in
     let s = now (a .slots) in
     let e = sym (c .before .before .before .before .judge-start .ensures) ∙ ap paperJudged (c .before .before .refusal .given .1) in
-    (λ j. outcome (c .refused .ensures .0 j) s (c .refused .ensures .1 j))
+    (λ j. outcome (c .unchanged .ensures .0 j) s (paperWriter (c .unchanged .ensures .1 j)))
     ∙ run-refused (a .panel) s (a .point) _ (a .panel .k + 3) (c .before .before .refusal .given .0 .0) e
 
 same-length : tie.Need-same-length
 same-length c = search needs
 
 returns-2 : tie.Need-returns-2
-unfolding wholeRemoval startRemoval leaves withReach withCount
+unfolding wholeRemoval startRemoval leaves withReach withCount isIdle searchingBy pointOfWork answeredBy
 returns-2 c =
-    let a = c .before .before .before .before .before .before .before .before .before .before .args in
+    let a = c .before .before .before .before .before .before .before .before .before .before .before .before .before .args in
     let s = now (a .slots) in
-    let e = sym (c .before .before .before .before .before .before .before .judge-start .ensures) ∙ ap paperJudged (c .before .before .before .before .before .enum-told .given .1) in
+    let removal : Removal = record { point = a .point; stage = Searching Unread } in
+    let e = sym (c .before .before .before .before .before .before .before .before .before .before .judge-start .ensures) ∙ ap paperJudged (c .before .before .before .before .before .before .before .before .enum-told .given .1) in
+    let moves = c .before .before .before .before .removal-answered .ensures ∙ ap (removalAnswered removal) (c .before .before .before .before .before .before .whole-search .ensures) in
     let ran = c .before .before .before .steps .ensures in
-    run-ended (a .panel) s (a .point) _ (a .panel .k + 3) e _ _ _ _ refl (omega arith) (ran .1) (whole-removal-ends (a .panel) s (a .point)) (ran .0)
+    whole-ended (a .panel) s (a .point) (Removing removal) (a .panel .k + 3) e (omega arith) refl (λ answer. answered-removes removal answer .0) refl refl (removal-begins (a .panel) s (a .point)) (whole-removal-ends (a .panel) s (a .point))
+    _ moves _ _ _ _ refl (ran .1) (ran .0)
 
 pub whole-removal-spec : {M : Type 1} → statement M
 whole-removal-spec =
@@ -72,8 +94,10 @@ whole-removal-spec =
     add-budget
     judge-start-requires
     enum-known-refusal
-    refused-requires
+    unchanged-requires
     enum-told
+    whole-search-requires
+    removal-answered-requires
     steps-requires
     returns
     same-length

@@ -1,5 +1,4 @@
 // The lines behind the first, each run to its end.
-use crate::output::room;
 use crate::printing;
 use line::CommandLine;
 use line::Line;
@@ -46,7 +45,7 @@ pub(crate) fn run_line(
     held: usize,
     text: &mut [u8],
 ) -> Done {
-    let filled = room(held, text);
+    let filled = printing::room(held, text);
     match line::command_of(line) {
         CommandLine::Put(put) => {
             let written = whole_put(panel, slots, put.point, put.value);

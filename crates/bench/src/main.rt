@@ -1,7 +1,6 @@
 // The bench program of document 01: reads commands from standard input and runs each to its end.
 mod commands;
 mod input;
-mod output;
 mod printing;
 
 use answers::FreshAnswer;
@@ -13,6 +12,7 @@ use input::read_on;
 use line::SizesLine;
 use record::Record;
 use table::fresh;
+use text_buffer::output::flush;
 
 fn main() {
     let mut slots = [0u64; 4096];
@@ -86,7 +86,7 @@ fn run_panel(panel: Record, slots: &mut [u64], bytes: &mut [u8], text: &mut [u8]
 // "A first line that is missing, unreadable or refused prints "panel ! 1" and ends the run".
 fn refuse(text: &mut [u8]) {
     let filled = text_buffer::line_end(text_buffer::text(0, text, b"panel ! 1"), text);
-    output::flush(filled, text);
+    flush(filled, text);
 }
 
 // The record after the lines that have been run, the line behind them, how many there were, and how much
@@ -153,6 +153,6 @@ fn run_whole_lines(begun: Run, slots: &mut [u64], bytes: &[u8], text: &mut [u8])
 fn finish(ended: Run, slots: &[u64], text: &mut [u8]) {
     let panel = ended.panel;
     let points = slot_words::taken::taken_slots(slots) as u64;
-    let room = output::room(ended.filled, text);
-    output::flush(printing::finish(room, text, panel.reach, points), text);
+    let room = printing::room(ended.filled, text);
+    flush(printing::finish(room, text, panel.reach, points), text);
 }

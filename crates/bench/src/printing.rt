@@ -6,6 +6,14 @@ use text_buffer::line_end;
 use text_buffer::number;
 use text_buffer::text;
 
+// A line has fewer bytes.
+const LINE: usize = 128;
+
+// Makes room for a line.
+pub(crate) fn room(filled: usize, out: &[u8]) -> usize {
+    text_buffer::output::room(filled, out, LINE)
+}
+
 pub(crate) fn panel(filled: usize, out: &mut [u8], m: u32, k: u32) -> usize {
     let named = text(filled, out, b"panel");
     let sized = number(named, out, m as u64);

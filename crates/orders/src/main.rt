@@ -23,6 +23,7 @@ use lines::Run;
 use lines::run_line;
 use panel_state::opened;
 use record::parts::fresh_record;
+use text_buffer::output::flush;
 
 fn main() {
     let mut slots = [0u64; 4096];
@@ -140,9 +141,9 @@ fn finish(
 ) {
     let now = ended.run;
     if ended.length == 0 {
-        output::flush(now.filled, out);
+        flush(now.filled, out);
         return;
     }
     let last = run_line(now, line, ended.length, slots, words, places, out);
-    output::flush(last.filled, out);
+    flush(last.filled, out);
 }

@@ -1,6 +1,6 @@
-// Standard output, by way of a buffer.
+// Numbers and lines of the output.
 
-// Room for one line, which never has as many bytes.
+// A line has fewer bytes.
 const LINE: usize = 256;
 
 // A space and a number.
@@ -10,17 +10,5 @@ pub(crate) fn number(filled: usize, out: &mut [u8], n: u32) -> usize {
 
 // Makes room for a line.
 pub(crate) fn room(filled: usize, out: &[u8]) -> usize {
-    if filled < out.len() {
-        if LINE < out.len() - filled {
-            return filled;
-        }
-    }
-    flush(filled, out);
-    0
-}
-
-pub(crate) fn flush(filled: usize, out: &[u8]) {
-    if filled <= out.len() {
-        io::write_all(libc::STDOUT_FILENO, &out[..filled]);
-    }
+    text_buffer::output::room(filled, out, LINE)
 }

@@ -31,3 +31,7 @@ pub record WithDecimal (before : Filled) (n : ℕ) (after : Filled) : Type 0 whe
   pub count : ℕ
   pub fewest : Fewest 10 1 n count
   pub put : after ≡ withBytes before (digits 10 count n)
+
+-- how many bytes are in use once there is room for a line: as many as before, or none, where the buffer had to be written
+unfoldable pub withRoom : ℕ → ℕ → ℕ → ℕ
+withRoom used size line = cond (ltb (used + line) size) used 0

@@ -1,5 +1,7 @@
 // Text put together in a lent buffer. Each function takes how many bytes of the buffer are in use, and gives
 // how many are then. A byte for which there is no room is left out.
+pub mod output;
+
 ghost use mathlib.Core.Path.{_≡_};
 ghost use Rattle.text_buffer.specs.Filling.{filledBy, withByte, withBytes, WithDecimal};
 

@@ -1,9 +1,9 @@
 /*
  * Fuzz target of a program that reads standard input and prints: any bytes as its input. The
- * program must end normally with status 0 and, if it has a reference, print what that prints.
+ * program must end normally with status 0 and print what its reference prints.
  *
  * Variables: FUZZ_PROGRAM the program, FUZZ_PRELOAD the library of host/fuzz_io.c, FUZZ_REFERENCE
- * set if the program has a reference, FUZZ_FAULT for the preloaded library.
+ * the name of the reference, FUZZ_FAULT for the preloaded library.
  */
 #define _GNU_SOURCE /* for memfd_create */
 
@@ -29,9 +29,11 @@ size_t LLVMFuzzerMutate(uint8_t *data, size_t size, size_t room);
 size_t LLVMFuzzerCustomMutator(uint8_t *data, size_t size, size_t room, unsigned int seed);
 
 /* host/fuzz_reference.rs */
-size_t reference_bench(const uint8_t *input, size_t length, uint8_t *printed, size_t room);
+typedef size_t reference_program(const uint8_t *input, size_t length, uint8_t *printed, size_t room);
+reference_program reference_bench;
+reference_program reference_orders;
 
-enum { PRINTED = 1 << 20 };
+enum { PRINTED = 1 << 22 };
 
 /* The exit status of a target that cannot run. */
 enum { UNABLE = 3 };
@@ -42,7 +44,7 @@ static uint8_t expected[PRINTED];
 static int input_file;
 static int output_file;
 static int control;
-static bool has_reference;
+static reference_program *reference;
 
 /* What a program must do; a finding if it does not. */
 static void require(bool holds, const char *what)
@@ -254,6 +256,17 @@ size_t LLVMFuzzerCustomMutator(uint8_t *data, size_t size, size_t room, unsigned
 
 /* ---- The target -------------------------------------------------------------------------- */
 
+static reference_program *reference_of(const char *name)
+{
+    if (name != NULL && strcmp(name, "bench") == 0) {
+        return reference_bench;
+    }
+    if (name != NULL && strcmp(name, "orders") == 0) {
+        return reference_orders;
+    }
+    return NULL;
+}
+
 int LLVMFuzzerInitialize(int *argc, char ***argv)
 {
     (void)argc;
@@ -261,7 +274,8 @@ int LLVMFuzzerInitialize(int *argc, char ***argv)
     const char *program = getenv("FUZZ_PROGRAM");
     const char *preload = getenv("FUZZ_PRELOAD");
     need(program != NULL && preload != NULL, "without FUZZ_PROGRAM and FUZZ_PRELOAD");
-    has_reference = getenv("FUZZ_REFERENCE") != NULL;
+    reference = reference_of(getenv("FUZZ_REFERENCE"));
+    need(reference != NULL, "without the name of a reference in FUZZ_REFERENCE");
     start(program, preload);
     return 0;
 }
@@ -295,12 +309,10 @@ int LLVMFuzzerTestOneInput(const uint8_t *data, size_t size)
     struct fuzz_order order = order_of(data, size);
     size_t count = run(data, size, order);
     note_shapes(count);
-    if (has_reference) {
-        size_t length = lesser(size, order.input.until);
-        size_t all = reference_bench(data, length, expected, PRINTED);
-        size_t wanted = lesser(all, order.output.until);
-        require(count == wanted && memcmp(printed, expected, count) == 0,
-                "the program prints what the reference prints");
-    }
+    size_t length = lesser(size, order.input.until);
+    size_t all = reference(data, length, expected, PRINTED);
+    size_t wanted = lesser(all, order.output.until);
+    require(count == wanted && memcmp(printed, expected, count) == 0,
+            "the program prints what the reference prints");
     return 0;
 }

@@ -4,14 +4,25 @@
 mod bench_line;
 mod bench_protocol;
 mod direct_table;
+mod orders_line;
+mod orders_protocol;
+mod orders_text;
+mod plain_feeding;
+mod point_table;
+mod reference_calls;
+mod reference_command;
 mod reference_frame;
-
-// Of these, only the hash functions, the words and the ranges are used.
-#[allow(dead_code)]
 mod reference_record;
+mod reference_writer;
+
+// The list's lookups are not printed.
+#[allow(dead_code)]
+mod plain_list;
+// The disabled points are no calls of a list.
 #[allow(dead_code)]
 mod reference_table;
 
+use direct_table::DirectTable;
 use reference_frame::Fields;
 use std::slice::{from_raw_parts, from_raw_parts_mut};
 
@@ -82,8 +93,27 @@ pub unsafe extern "C" fn reference_bench(
     room: usize,
 ) -> usize {
     let mut left = from_raw_parts_mut(printed, room);
-    match bench_protocol::run(from_raw_parts(input, length), &mut left) {
-        Ok(()) => room - left.len(),
+    match bench_protocol::run::<DirectTable>(from_raw_parts(input, length), &mut left) {
+        Ok(_) => room - left.len(),
         Err(_) => room + 1,
     }
+}
+
+/// The same of the orders program.
+///
+/// # Safety
+/// Both pointers are not null and valid for their lengths; nothing else refers to `printed`.
+#[no_mangle]
+pub unsafe extern "C" fn reference_orders(
+    input: *const u8,
+    length: usize,
+    printed: *mut u8,
+    room: usize,
+) -> usize {
+    let text = orders_protocol::run(from_raw_parts(input, length));
+    if text.len() > room {
+        return room + 1;
+    }
+    from_raw_parts_mut(printed, text.len()).copy_from_slice(&text);
+    text.len()
 }

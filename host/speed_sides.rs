@@ -61,11 +61,6 @@ impl Side {
         });
         time.map_err(|error| self.explain(error))
     }
-
-    /// The work's time: the fill's, with the start of the program, is taken off.
-    fn work_time(&self, inputs: &Inputs) -> Result<f64, String> {
-        Ok(self.time(&inputs.whole)? - self.time(&inputs.fill)?)
-    }
 }
 
 fn judge(status: ExitStatus) -> IoResult<()> {
@@ -94,16 +89,25 @@ pub fn agree(sides: &[Side], inputs: &Inputs) -> Result<(), String> {
     }
 }
 
-/// The median of each side's times for the work.
-pub fn medians<const N: usize>(sides: &[Side; N], inputs: &Inputs) -> Result<[f64; N], String> {
-    let mut times = [(); N].map(|()| Vec::with_capacity(ROUNDS));
+/// The shortest times of one side so far, in seconds.
+#[derive(Clone, Copy)]
+struct Shortest {
+    fill: f64,
+    whole: f64,
+}
+
+/// Each side's time for the work: that of the fill, with the start of the program, is taken off the
+/// whole's. The shortest of several rounds counts, since other work on the machine only adds.
+pub fn work_times<const N: usize>(sides: &[Side; N], inputs: &Inputs) -> Result<[f64; N], String> {
+    let mut shortest = [Shortest {
+        fill: f64::INFINITY,
+        whole: f64::INFINITY,
+    }; N];
     for _ in 0..ROUNDS {
-        for (side, times) in sides.iter().zip(&mut times) {
-            times.push(side.work_time(inputs)?);
+        for (side, times) in sides.iter().zip(&mut shortest) {
+            times.fill = times.fill.min(side.time(&inputs.fill)?);
+            times.whole = times.whole.min(side.time(&inputs.whole)?);
         }
     }
-    Ok(times.map(|mut times| {
-        times.sort_by(f64::total_cmp);
-        times[ROUNDS / 2]
-    }))
+    Ok(shortest.map(|times| times.whole - times.fill))
 }

@@ -27,7 +27,7 @@ mod reference_table;
 mod reference_writer;
 
 use point_table::PointTable;
-use speed_sides::{agree, medians, Inputs, Side, ROUNDS};
+use speed_sides::{agree, work_times, Inputs, Side, ROUNDS};
 use speed_workload::{Load, Panel, Work, Workload};
 use std::path::Path;
 use std::process::ExitCode;
@@ -131,7 +131,7 @@ impl SpeedTable {
         let steps = (after.steps - carried_out(&workload.fill).steps) as f64;
         self.inputs.write(workload)?;
         agree(&self.sides[..ALIKE], &self.inputs)?;
-        let [proved, others @ ..] = medians(&self.sides, &self.inputs)?;
+        let [proved, others @ ..] = work_times(&self.sides, &self.inputs)?;
         let ratios @ [machine, direct, map] = others.map(|other| proved / other);
         self.ratios.push(ratios);
 
@@ -181,7 +181,7 @@ fn measure() -> Result<(), String> {
         return Err("three arguments: the program, the reference, a folder".to_string());
     };
     let mut table = SpeedTable::new(program, reference, Path::new(&folder));
-    println!("speed_table: medians of {ROUNDS} rounds by turns");
+    println!("speed_table: best of {ROUNDS} rounds by turns");
     println!("{HEAD}");
     print_cells(COLUMNS.map(|(name, _)| name.to_string()));
     for m in SIZES {

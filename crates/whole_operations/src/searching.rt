@@ -11,8 +11,8 @@ use search::access::word_read;
 use search::search_access;
 use search::search_advance;
 
-// The search from its first step to its last. All that changes from step to step is the next index, which
-// is kept as a number: the compiler would pass an enum through memory at each step.
+// The search from its first step, which reads the reach, to its last. All that changes from step to step is
+// the next index, which is kept as a number: the compiler would pass an enum through memory at each step.
 pub(crate) fn whole_search(slots: &[u64], m: u32, point: u32, reach: u32) -> SearchAnswer
     requires { ⌜ reach ≤ 64 ⌝ }
     ensures { λ r. ⌜ r ≡ searchEnd (now (slots .entry)) m point reach (suc reach) Unread ⌝ }

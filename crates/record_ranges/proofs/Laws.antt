@@ -4,6 +4,7 @@
 use Prim.Native.Nat.{ℕ, _≤_}
 use mathlib.Core.Path.{_≡_, refl}
 use mathlib.Core.Bool.{true, false}
+use native.Mathlib.Omega.{arith}
 use borrow.Author.Tests.{leb-true, le-leb, eqb-true}
 use lib.Dec.{leb, eqb, leb·zero}
 use lib.ListN.{replicate}
@@ -69,6 +70,10 @@ module _ (lent : ℕ) (panel : Record) where
 
   pub sizes-in-range : inRange lent panel ≡ true → Sizes (panel .m) (panel .k) lent
   sizes-in-range h = sizes (panel .m) (panel .k) lent (fields h .sizes-fit)
+
+  -- no reach is above the largest number of functions
+  pub reach-high : inRange lent panel ≡ true → panel .reach ≤ 64
+  reach-high h = omega (arith, fields h .reach-fits, sizes-in-range h .k-high)
 
   pub work-in-range : (reader : ℕ) → inRange lent panel ≡ true → workInRange (panel .m) (panel .k) (workOf panel reader) ≡ true
   unfolding readersInRange readerInRange workInRange workOf

@@ -21,13 +21,13 @@ use Rattle.record.specs.Parts.{workOf, withWork}
 use Rattle.record.proofs.WorkLaws.{work-replaced, replaced-twice, same-work}
 use Rattle.work_ranges.specs.WorkRanges.{validPoint, workInRange, lookupInRange, searchInRange}
 use Rattle.record_ranges.specs.Ranges.{inRange}
-use Rattle.record_ranges.proofs.Laws.{fields, work-in-range, with-work-in-range}
+use Rattle.record_ranges.proofs.Laws.{fields, reach-high, work-in-range, with-work-in-range}
 use Rattle.table.specs.Starts.{lookupRefusal, startReader, startLookup}
 use Rattle.whole_operations.specs.Whole.{untilEnded, readerStep, wholeLookup}
 use Rattle.table.proofs.ReaderLaws.{stepsLeft, OneLess, advances, none-left}
 use Rattle.whole_operations.specs.WholeFacts.{searchEnd}
 use Rattle.whole_operations.proofs.WholeLaws.{budget-suffices, has-ended, same-step}
-use Rattle.whole_operations.proofs.WholeSearch.{reach-high, standing, search-comes}
+use Rattle.whole_operations.proofs.WholeSearch.{standing, search-comes}
 use Rattle.search.specs.declared.Searched.{Searched}
 use Rattle.search.specs.declared.Searched.the-variants.{Going, Answered}
 use Rattle.search.specs.declared.SearchAnswer.{SearchAnswer}

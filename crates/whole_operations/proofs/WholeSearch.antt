@@ -7,12 +7,9 @@ use mathlib.Core.List.{List}
 use native.Mathlib.Omega.{arith}
 use borrow.Author.Tests.{ltb-true, eqb-true, eqb-false}
 use lib.Dec.{ltb, eqb}
-use Rattle.record.specs.declared.Record.{Record}
 use Rattle.record.specs.declared.Search.{Search}
 use Rattle.record.specs.declared.Search.the-variants.{Unread, Probing}
 use Rattle.work_ranges.specs.WorkRanges.{searchInRange}
-use Rattle.record_ranges.specs.Ranges.{inRange}
-use Rattle.record_ranges.proofs.Laws.{fields, sizes-in-range}
 use Rattle.answers.specs.Answers.{isUnderway, Outcome}
 use Rattle.search.specs.declared.Searched.{Searched}
 use Rattle.search.specs.declared.Searched.the-variants.{Going, Answered}
@@ -25,10 +22,6 @@ use Rattle.search.proofs.SearchLaws.{searchLeft, some-left, searchedLeft, searc
 use Rattle.whole_operations.specs.Whole.{untilEnded}
 use Rattle.whole_operations.specs.WholeFacts.{answerAfter, searchEnd}
 use Rattle.whole_operations.proofs.WholeLaws.{one-step, one-more, some-budget}
-
--- no reach is above the largest number of functions
-pub reach-high : (lent : ℕ) (panel : Record) → inRange lent panel ≡ true → panel .reach ≤ 64
-reach-high lent panel fits = omega (arith, fields lent panel fits .reach-fits, sizes-in-range lent panel fits .k-high)
 
 -- an operation as its search stands after a step
 abbrev pub standing : (Search → Outcome) → (SearchAnswer → Outcome) → Searched → Outcome

@@ -16,6 +16,7 @@ use Rattle.record.specs.declared.WriterWork.the-variants.{Idle, Putting, Changi
 use Rattle.record.specs.Parts.{withWriter}
 use Rattle.work_ranges.specs.WorkRanges.{validPoint}
 use Rattle.record_ranges.specs.Ranges.{inRange}
+use Rattle.record_ranges.proofs.Laws.{reach-high}
 use Rattle.answers.specs.Answers.{Answer, started, underway, refused, isUnderway, Outcome, outcome, unlessRefused}
 use Rattle.answers.proofs.AnswerLaws.{refused-outcome, allowed-outcome}
 use Rattle.moves.specs.Moves.{isIdle}
@@ -24,7 +25,6 @@ use Rattle.writer.specs.WriterFacts.{Begun}
 use Rattle.writer.proofs.WriterLaws.{AtWork}
 use Rattle.whole_operations.specs.Whole.{untilEnded, writerStep}
 use Rattle.whole_operations.proofs.WholeLaws.{has-ended, same-step}
-use Rattle.whole_operations.proofs.WholeSearch.{reach-high}
 
 idle-work : (work : WriterWork) → isIdle work ≡ true → work ≡ Idle
 unfolding isIdle

@@ -1,5 +1,4 @@
 -- A refused call leaves record and slots; and the paper's answers tell the cases of the enums apart, so that the contracts decide the enums too.
--- Assumes nothing.
 use Prim.Native.Nat.{ℕ, zero, suc, _≤_}
 use mathlib.Core.Path.{_≡_, refl, ap}
 use mathlib.Core.List.{List, [], _∷_}

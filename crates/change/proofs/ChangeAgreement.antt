@@ -1,6 +1,5 @@
 -- A change's step, where the table agrees with a plain list: it goes on as it should, or ends with the answer that the plain list gives to the change, fed in the
 -- step that stores the slot or, where the point is unknown, in the last. A command's change is the change by its action's masks.
--- Assumes nothing.
 use Prim.Native.Nat.{ℕ, _<_}
 use mathlib.Core.Bool.{Bool, true, false, cond}
 use mathlib.Core.Path.{_≡_, refl, sym, ap, subst}

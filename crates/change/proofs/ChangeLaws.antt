@@ -1,6 +1,5 @@
 -- Laws of a change's step: it goes on in range or ends, and takes one of the steps that are left; so a change takes at most k + 2;
 -- it leaves the reach, and touches one of the slots lent.
--- Assumes nothing.
 use Prim.Native.Nat.{ℕ, _+_, _≤_, _<_}
 use mathlib.Core.Path.{_≡_, refl}
 use mathlib.Core.Bool.{Bool, true, false}

@@ -1,5 +1,5 @@
 -- Laws of the command entry, for whoever reasons about orders of calls: what it can come to on a record in range, and that the record stays in range.
--- A frame that is not refused has its fields in range. Assumes nothing.
+-- A frame that is not refused has its fields in range.
 use Prim.Native.Nat.{ℕ, zero, suc, _+_, _≤_}
 use mathlib.Core.Path.{_≡_, refl, sym, ap, _∙_}
 use mathlib.Core.Bool.{Bool, true, false, cond, not}

@@ -1,5 +1,5 @@
 -- The frame reader's answer to bytes that begin with 0F is what the command entry takes them for, the refusals and the fields being the same; and the
--- answer to that is the command entry's. Assumes nothing.
+-- answer to that is the command entry's.
 use Prim.Native.Nat.{ℕ, zero, suc, _≤_}
 use mathlib.Core.Path.{_≡_, refl, sym, ap, ap₂, _∙_}
 use mathlib.Core.Bool.{true, false}

@@ -1,5 +1,4 @@
 -- Laws of `disabledPoints` and `lowest`: a slot at a time, for the loops over the slots; and that the lowest of the points is one of them.
--- Assumes nothing.
 use Prim.Native.Nat.{ℕ, suc, _+_, _<_, _≤_, min}
 use mathlib.Core.Path.{_≡_, refl, ap}
 use mathlib.Core.Bool.{Bool, true, false, cond, _||_, or-true}

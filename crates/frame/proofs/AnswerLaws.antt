@@ -1,5 +1,4 @@
 -- The paper's numbers tell the cases of the answers apart, so that the contracts decide the enums too.
--- Assumes nothing.
 use Prim.Native.Nat.{ℕ}
 use mathlib.Core.Path.{_≡_, refl, ap, ap₂}
 use mathlib.Core.Bool.{cond}

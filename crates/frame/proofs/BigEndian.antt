@@ -1,5 +1,4 @@
 -- Laws of big-endian numbers: how large one is, that its bytes are as many as its width, and that reading and writing undo each other.
--- Assumes nothing.
 use Prim.Native.Nat.{ℕ, zero, suc, _+_, _*_, _/_, _%_, _^_, _≤_, _<_}
 use mathlib.Core.Path.{_≡_, refl, sym, ap, _∙_}
 use mathlib.Core.List.{List, [], _∷_, _++_, append-assoc}

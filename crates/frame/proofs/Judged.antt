@@ -1,5 +1,4 @@
 -- What follows where the tests of a refusal chain found nothing: each test failed, and so each field that the map has is in its range.
--- Assumes nothing.
 use Prim.Native.Nat.{ℕ, _≤_}
 use mathlib.Core.Path.{_≡_, refl}
 use mathlib.Mathlib.Data.Bool.Basic.{or-eq-false-eq-eq-false-and-eq-false}

@@ -1,6 +1,5 @@
 -- A layout of an allowed map gives the field map's own fields, ranges and bytes, so that reading and writing by a layout is reading
 -- and writing by the field map.
--- Assumes nothing.
 use Prim.Native.Nat.{ℕ, zero, suc, _+_, _≤_}
 use mathlib.Core.Path.{_≡_, refl, sym, ap, ap₂, _∙_}
 use mathlib.Core.Bool.{Bool, true, false, cond, not, _||_}

@@ -1,5 +1,4 @@
 -- What the reader's and the writer's definitions come to in each case that the code tells apart.
--- Assumes nothing.
 use Prim.Native.Nat.{ℕ, zero, suc, _≤_, _<_}
 use mathlib.Core.Path.{_≡_, refl}
 use mathlib.Core.Bool.{false}

@@ -1,6 +1,5 @@
 -- Reading undoes writing and writing undoes reading: so each valid frame has one reading. Both go bit by bit along the bytes in front
 -- of each field.
--- Assumes nothing.
 use Prim.Native.Nat.{ℕ, zero, suc, _+_, _^_, _≤_, _<_}
 use mathlib.Core.Path.{_≡_, refl, sym, ap, ap₂, _∙_}
 use mathlib.Core.Bool.{Bool, true, false, cond, not}

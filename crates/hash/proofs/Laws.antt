@@ -1,6 +1,5 @@
 -- Laws of `coefficientOf` and `positionOf` that proofs cite in place of their text: what each is inside its range and outside, and
 -- that a position is a slot's number.
--- Assumes nothing.
 use Prim.Native.Nat.{ℕ, _+_, _-_, _*_, _%_, _≤_, _<_}
 use mathlib.Core.Path.{_≡_}
 use mathlib.Core.Bool.{and-false, Bool, true, false, cond, _&&_}

@@ -1,5 +1,4 @@
 -- The bound of a product of two 32-bit numbers.
--- Assumes nothing.
 use Prim.Native.Nat.{ℕ, _*_, _^_, _≤_, _<_}
 use native.Mathlib.Nat.{mul-le-mul}
 use native.Mathlib.Omega.{arith}

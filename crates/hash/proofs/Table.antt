@@ -1,5 +1,4 @@
 -- The lemmas that carry the computed test of the table to each of its entries, and so to each hash function.
--- Assumes nothing.
 use Prim.Native.Nat.{ℕ, zero, suc, _+_, _-_, _*_, _≤_, _<_}
 use mathlib.Core.Path.{_≡_, refl, sym, ap, _∙_}
 use mathlib.Core.Bool.{Bool, and-eq-true-iff, true, false}

@@ -1,6 +1,5 @@
 -- What is true of the stations and of the commands noted, between two calls: each station's stored answer is one that its last command's change gave; no command that
 -- acted or ended has a number above its station's last; the command underway has the number after it. So no station's number acts or ends twice.
--- Assumes nothing.
 use Prim.Native.Nat.{ℕ, _+_, _≤_, _<_}
 use mathlib.Core.Bool.{Bool, true, false, cond}
 use mathlib.Core.Path.{_≡_, refl, sym, ap, subst, _∙_}

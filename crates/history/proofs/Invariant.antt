@@ -1,7 +1,6 @@
 -- What is true of a world before the first call and after each, and that it follows what the claim says of a world. The invariant speaks of the record and the
 -- definitions that the contracts cite: the table agrees with the plain list, the writer's work and what is noted of it fit together, and so do each reader's; the
 -- stations fit the commands noted.
--- Assumes nothing.
 use Prim.Native.Nat.{ℕ, zero, suc, _+_, _≤_}
 use mathlib.Core.Bool.{true, false, false≢true}
 use mathlib.Core.Path.{_≡_, refl, sym, ap, subst}

@@ -1,4 +1,4 @@
--- Document 01's marked values follow from the definitions: both sides of each row of the table compute to the same. Assumes nothing.
+-- Document 01's marked values follow from the definitions: both sides of each row of the table compute to the same.
 use mathlib.Core.Path.{refl}
 use Rattle.refusal.specs.Judging.{both, either, within, outside, refuseIf}
 use Rattle.hash.specs.Position.{z, positionOf}

@@ -1,5 +1,4 @@
 -- A refused call, and the calls of readers, keep the invariant and are answered right.
--- Assumes nothing.
 use Prim.Native.Nat.{ℕ, _≤_, _<_}
 use mathlib.Core.Bool.{Bool, true, false, cond, not}
 use mathlib.Core.Path.{_≡_, refl, sym, subst, _∙_}

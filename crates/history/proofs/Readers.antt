@@ -1,7 +1,6 @@
 -- What is true of a reader between two calls, by its work and what is noted of it: a lookup knows of its point's row, or the row was absent at one of its moments;
 -- a walk has reported once each row that it has passed, or the row was absent at one of its moments. Every call of the others keeps this, and the reader's own step
 -- keeps it and answers right.
--- Assumes nothing.
 use Prim.Native.Nat.{ℕ, _+_, _-_, _≤_, _<_}
 use mathlib.Core.Bool.{Bool, true, false, cond, false≢true}
 use mathlib.Core.Path.{_≡_, refl, sym, ap, subst, _∙_}

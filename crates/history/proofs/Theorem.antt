@@ -1,5 +1,4 @@
 -- Demand 3, shown for every list of calls: a fresh world has the invariant, every call keeps it and is answered right, so the claim follows by going along the list.
--- Assumes nothing.
 use Prim.Native.Nat.{ℕ}
 use mathlib.Core.Path.{sym, subst}
 use mathlib.Core.List.{List, [], _∷_}

@@ -1,5 +1,4 @@
 -- The writer's starts, a command's among them, keep the invariant and are answered right.
--- Assumes nothing.
 use Prim.Native.Nat.{ℕ, _≤_, _<_}
 use mathlib.Core.Bool.{true, false, false≢true}
 use mathlib.Core.Path.{_≡_, refl, sym, subst}

@@ -1,6 +1,5 @@
 -- The writer's step keeps the invariant and is answered right: whichever of the four things it comes to, the plain list is fed exactly where document 01 says, and
 -- a step that ends an operation answers what the plain list answered then.
--- Assumes nothing.
 use Prim.Native.Nat.{ℕ, _+_, _-_, _≤_, _<_}
 use mathlib.Core.Bool.{Bool, true, false, cond, not, false≢true}
 use mathlib.Core.Path.{_≡_, refl, sym, ap, subst, _∙_}

@@ -1,5 +1,4 @@
 -- Lines that are readable, and lines that are not: what Grammar says of each, by computation.
--- Assumes nothing.
 use Prim.Native.Nat.{ℕ}
 use Prim.Native.String.{String}
 use mathlib.Core.Path.{_≡_, refl}

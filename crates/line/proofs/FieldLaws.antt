@@ -1,5 +1,5 @@
 -- Laws of a field: what the code keeps of its bytes is read as the bytes are, as a number and as a letter.
--- Digits are followed from any count and value on; they stop being a number where the whole of them is none. Assumes nothing.
+-- Digits are followed from any count and value on; they stop being a number where the whole of them is none.
 use Prim.Native.Nat.{ℕ, suc, _+_, _*_, _-_, _≤_, _<_}
 use mathlib.Core.Path.{_≡_, refl, sym, _∙_, ap}
 use mathlib.Core.Bool.{Bool, true, false, cond, _&&_, true≢false, false≢true}

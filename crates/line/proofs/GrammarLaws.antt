@@ -1,5 +1,5 @@
 -- The state that the code keeps of a line reads what Grammar says, for every list of bytes.
--- The line's fields are shown to stand in the state one by one; each of them is read as its bytes are. Assumes nothing.
+-- The line's fields are shown to stand in the state one by one; each of them is read as its bytes are.
 use Prim.Native.Nat.{ℕ, _≤_}
 use mathlib.Core.Path.{_≡_, refl, sym, _∙_}
 use mathlib.Core.Bool.{Bool, true, false, cond}

@@ -1,5 +1,5 @@
 -- Laws of a line read out of a buffer: one byte at a time, and a run of digits at a time, which comes to the same.
--- No digit is a line end or a space, so each goes to the last field. Assumes nothing.
+-- No digit is a line end or a space, so each goes to the last field.
 use Prim.Native.Nat.{ℕ, zero, suc, _+_, _≤_, _<_, min}
 use mathlib.Core.Path.{_≡_, refl, sym, _∙_}
 use mathlib.Core.Bool.{Bool, true, false, cond, not, _&&_, false≢true}

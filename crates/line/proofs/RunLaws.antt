@@ -1,5 +1,5 @@
 -- Laws of a run of digits, for the loop that reads it: what was read and what is left make up the whole run.
--- A run of at most ten digits says less than 10^10, so that no sum in the loop wraps. Assumes nothing.
+-- A run of at most ten digits says less than 10^10, so that no sum in the loop wraps.
 use Prim.Native.Nat.{ℕ, zero, suc, _+_, _*_, _-_, _≤_, _<_, min}
 use mathlib.Core.Path.{_≡_, refl, sym, _∙_, ap}
 use mathlib.Core.Bool.{Bool, true, false, cond}

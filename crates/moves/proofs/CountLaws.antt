@@ -1,5 +1,4 @@
 -- Laws of the counts: which index a search from above for the largest counted one ends at; that it is not above k, not below a counted index, and counted itself.
--- Assumes nothing.
 use Prim.Native.Nat.{ℕ, zero, suc, _-_, _≤_}
 use mathlib.Core.Path.{_≡_, refl, ap, _∙_}
 use mathlib.Core.Bool.{Bool, true, false, cond}

@@ -1,6 +1,5 @@
 -- Laws of what a step of the writer comes to: an update in range keeps a record in range and leaves the rest of it; and how many steps an operation has
 -- left, at most, by which the bounds 2k + 2, k + 2 and k + 3 are shown.
--- Assumes nothing.
 use Prim.Native.Nat.{ℕ, _+_, _*_, _-_, _≤_, min}
 use mathlib.Core.Path.{_≡_, refl, sym}
 use mathlib.Core.Bool.{Bool, true, false, cond, not, false≢true}

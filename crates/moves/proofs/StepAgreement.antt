@@ -1,6 +1,5 @@
 -- What is true of the writer's work between two of its steps, where the table agrees with a plain list (`WorkOK`), and what a step of it may come to (`StepOK`).
 -- The laws of put, change and removal show that each of their steps comes to one of these.
--- Assumes nothing.
 use Prim.Native.Nat.{ℕ, _≤_, _<_}
 use mathlib.Core.Bool.{Bool, true, false}
 use mathlib.Core.Path.{_≡_, sym, _∙_}

@@ -1,5 +1,4 @@
 -- What the program keeps is the world of `history`: the laws by which a call carried out keeps it so.
--- Assumes nothing.
 use Prim.Native.Nat.{ℕ, zero, suc, _+_}
 use mathlib.Core.Bool.{Bool, true, false, cond, not, false≢true}
 use mathlib.Core.List.{List}

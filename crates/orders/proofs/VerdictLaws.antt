@@ -1,5 +1,4 @@
 -- The test of the slots against the plain list, row by row and slot by slot, decides `Shows`.
--- Assumes nothing.
 use Prim.Native.Nat.{ℕ, zero, suc, _+_, _<_}
 use mathlib.Core.Bool.{Bool, true, false, false≢true}
 use mathlib.Core.List.{List, [], _∷_}

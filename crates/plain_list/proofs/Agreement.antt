@@ -1,6 +1,5 @@
 -- When a table, that is the slots, the reach and the counts, agrees with a plain list: each row's word stands at its place, at the lowest index of that place, which
 -- the reach covers; every other slot is empty; each count is the number of rows of its index. As many rows as taken slots: so a count stays below m while a slot is empty.
--- Assumes nothing.
 use Prim.Native.Nat.{ℕ, _≤_, _<_}
 use mathlib.Core.Bool.{Bool, true, false}
 use mathlib.Core.Path.{_≡_, refl, sym, ap, subst, _∙_}

@@ -1,6 +1,5 @@
 -- The four changes that a step of the writer can make to a table keep the agreement, with the plain list that was fed: a row's word stored anew, a row added and
 -- counted, a row's slot emptied and uncounted, the reach stored.
--- Assumes nothing.
 use Prim.Native.Nat.{ℕ, _+_, _-_, _≤_, _<_, min}
 use mathlib.Core.Bool.{true, cond}
 use mathlib.Core.Path.{_≡_, sym, ap, subst, _∙_}

@@ -1,5 +1,4 @@
 -- Laws of indices: a row's index is the lowest whose position is the row's place; the first free position; how many rows have an index; the largest index.
--- Assumes nothing.
 use Prim.Native.Nat.{ℕ, zero, suc, _+_, _≤_, _<_, max}
 use mathlib.Core.Bool.{Bool, true, false, cond, not}
 use mathlib.Core.Path.{_≡_, refl, sym, ap, _∙_}

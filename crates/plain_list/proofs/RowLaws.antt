@@ -1,5 +1,4 @@
 -- Laws of the plain list alone: a point's row after each of the list's operations; each point has one row; which places are taken.
--- Assumes nothing.
 use Prim.Native.Nat.{ℕ, suc}
 use mathlib.Core.Bool.{Bool, true, false, cond}
 use mathlib.Core.Path.{_≡_, refl, sym, ap, _∙_}

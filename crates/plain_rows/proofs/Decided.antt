@@ -1,5 +1,4 @@
 -- The contract of `feed` leaves nothing open: of two outcomes of one call the slices, the count and the answer are the same.
--- Assumes nothing.
 use Prim.Native.Nat.{ℕ, zero, suc, _<_}
 use mathlib.Core.Bool.{Bool, true, false}
 use mathlib.Core.List.{List}

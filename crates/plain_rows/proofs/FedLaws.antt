@@ -1,5 +1,4 @@
 -- Laws of what feeding comes to: there is room for what the slices show after it, or it is refused and nothing is stored.
--- Assumes nothing.
 use Prim.Native.Nat.{ℕ, zero, suc, _+_, _<_}
 use mathlib.Core.Bool.{Bool, true, false}
 use mathlib.Core.List.{List, _∷_}

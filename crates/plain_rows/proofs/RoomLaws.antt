@@ -1,6 +1,5 @@
 -- Where the slices have room, feeding is the plain list's own: room for one row more is enough; and a table of m slots that agrees with its list
 -- needs no more than m entries, so that no panel of document 01 meets the refusal.
--- Assumes nothing.
 use Prim.Native.Nat.{ℕ, zero, suc, _+_, _<_, _≤_}
 use mathlib.Core.Bool.{Bool, true, false, cond, not}
 use mathlib.Core.List.{List, [], _∷_}

@@ -1,5 +1,4 @@
 -- Laws of the rows that two slices hold: their number; the newest row, for loops from it down; rows that agree index by index.
--- Assumes nothing.
 use Prim.Native.Nat.{ℕ, zero, suc, _+_, _-_, _<_}
 use mathlib.Core.Bool.{true}
 use mathlib.Core.List.{List, _∷_}

@@ -1,5 +1,4 @@
 -- Laws of stores to the slices: one row behind the others; a loop that gives a point's rows a value; a loop that moves down the rows of other points.
--- Assumes nothing.
 use Prim.Native.Nat.{ℕ, _+_, _<_}
 use mathlib.Core.Bool.{Bool, true, false, cond}
 use mathlib.Core.List.{List, _∷_}

@@ -1,6 +1,5 @@
 -- A put's step, where the table agrees with a plain list: it goes on as it should, or ends with the answer that the plain list gives to the put, fed in the step
 -- that stores the slot or, where none is stored, in the last. The reach is raised before the slot is stored, so no lookup that begins in between misses a row.
--- Assumes nothing.
 use Prim.Native.Nat.{ℕ, zero, suc, _+_, _≤_, _<_}
 use mathlib.Core.Bool.{Bool, true, false, cond}
 use mathlib.Core.Path.{_≡_, refl, sym, ap, subst, _∙_}

@@ -1,5 +1,4 @@
 -- What a reader's step comes to on a record in range: it is refused, but not with 1, or its three parts are carried out.
--- Assumes nothing.
 use Prim.Native.Nat.{ℕ, _≤_}
 use mathlib.Core.Bool.{Bool, true, false}
 use mathlib.Core.Path.{_≡_, refl}

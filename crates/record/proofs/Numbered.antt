@@ -1,5 +1,4 @@
 -- Laws of elements counted from 1: the number n stands at n − 1; with 0, or past the end, none is read and none replaced.
--- Assumes nothing.
 use Prim.Native.Nat.{ℕ, zero, suc, _-_, _≤_, _<_}
 use mathlib.Core.Path.{_≡_, refl, ap, sym, _∙_}
 use mathlib.Core.List.{List, map}

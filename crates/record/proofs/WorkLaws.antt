@@ -1,5 +1,4 @@
 -- A reader's work that was replaced: read again, replaced again or by what it was, and what it leaves to the other readers.
--- Assumes nothing.
 use Prim.Native.Nat.{ℕ, _<_}
 use mathlib.Core.Path.{_≡_, ap, _∙_, sym}
 use mathlib.Core.Logic.{_≢_}

@@ -1,5 +1,4 @@
 -- Laws of `all`: for a loop that goes over a list and leaves at the first element that fails the test; for one element; for an element replaced.
--- Assumes nothing.
 use Prim.Native.Nat.{ℕ, zero, suc, _+_, _<_, _≤_}
 use mathlib.Core.Path.{_≡_, refl, ap, _∙_}
 use mathlib.Core.Bool.{Bool, true, false}

@@ -1,6 +1,5 @@
 -- Laws of the record that callers cite in place of the definitions' text: what the range test says, field by field and back; what replacing a
 -- part does to the ranges; that a fresh record is in range and the record of zeros never is.
--- Assumes nothing.
 use Prim.Native.Nat.{ℕ, _≤_}
 use mathlib.Core.Path.{_≡_, refl}
 use mathlib.Core.Bool.{true, false}

@@ -1,5 +1,4 @@
 -- What a test of all elements, or of the first k, says of an element counted from 1, and of the list with one replaced.
--- Assumes nothing.
 use Prim.Native.Nat.{ℕ, zero, suc, _≤_}
 use mathlib.Core.Path.{_≡_, refl, ap, sym, _∙_}
 use mathlib.Core.Bool.{Bool, true}

@@ -1,6 +1,5 @@
 -- Laws of the refusals: no number is 0, so that 0 can mean "not refused"; a number tells its row; a word's letters are in its array;
 -- what follows where a chain of tests refuses or does not; and what joined tests and ranges say.
--- Assumes nothing.
 use Prim.Native.Nat.{ℕ, zero, suc, _-_, _≤_}
 use mathlib.Core.Path.{_≡_, refl}
 use mathlib.Core.Bool.{Bool, true, false, false≢true}

@@ -1,6 +1,5 @@
 -- A removal's step, where the table agrees with a plain list: it goes on as it should, empties the slot and so feeds the list, or ends with the answer that the
 -- plain list gives. The reach is lowered only after the slot was emptied, to the list's largest index, so it covers every row all the time.
--- Assumes nothing.
 use Prim.Native.Nat.{ℕ, _-_, _≤_}
 use mathlib.Core.Bool.{Bool, true, false, cond}
 use mathlib.Core.Path.{_≡_, refl, sym, ap, subst, _∙_}

@@ -1,6 +1,5 @@
 -- Laws of a search: each step goes on in range, finds a place in range or ends, and takes one of the steps that are left;
 -- a step reads one of the slots lent.
--- Assumes nothing.
 use Prim.Native.Nat.{ℕ, _+_, _-_, _≤_, _<_}
 use mathlib.Core.Path.{_≡_, refl, sym, subst}
 use mathlib.Core.Bool.{Bool, true, false, cond}

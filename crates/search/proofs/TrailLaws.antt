@@ -1,6 +1,5 @@
 -- What a search knows between two of its steps, where the table agrees with a plain list: the point's row is at an index yet to be read, or a fact F that stands for
 -- "not found" (of a reader: the point was absent at one of the lookup's moments; of the writer: it is absent). A step keeps it, and so does every call of the others.
--- Assumes nothing.
 use Prim.Native.Nat.{ℕ, _+_, _≤_, _<_}
 use mathlib.Core.Bool.{Bool, true, false, cond}
 use mathlib.Core.Path.{_≡_, refl, sym, ap, subst, _∙_}

@@ -1,5 +1,4 @@
 -- Laws of `takenSlots`: a slot at a time, for a loop over the slots; and after one slot was stored.
--- Assumes nothing.
 use Prim.Native.Nat.{ℕ, zero, suc, _+_, _<_, _≤_}
 use mathlib.Core.Path.{_≡_, ap}
 use mathlib.Core.Bool.{Bool, true, false, cond}

@@ -1,5 +1,4 @@
 -- Laws of a slot's word: point and value come back; the word of a point is not 0; a word tells its point.
--- Assumes nothing.
 use Prim.Native.Nat.{ℕ, _≤_, _<_}
 use mathlib.Core.Path.{_≡_}
 use mathlib.Core.Logic.{_≢_}

@@ -1,6 +1,5 @@
 -- Laws of a reader's calls, for whoever reasons about orders of calls: a start or a step of one reader leaves everything else as it was, and keeps a record
 -- in range; a lookup takes at most k + 1 steps and a walk exactly m, whatever the others do in between; a step reads one of the slots lent.
--- Assumes nothing.
 use Prim.Native.Nat.{ℕ, _+_, _-_, _≤_, _<_}
 use mathlib.Core.Path.{_≡_, refl, ap, _∙_}
 use mathlib.Core.Bool.{Bool, true, false, cond, not}

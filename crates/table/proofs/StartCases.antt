@@ -1,5 +1,4 @@
 -- What the start of a lookup or a walk comes to on a record in range: it is refused, but not with 1, or the reader has its work and the record is in range.
--- Assumes nothing.
 use Prim.Native.Nat.{ℕ, _≤_}
 use mathlib.Core.Bool.{Bool, true, false, not}
 use mathlib.Core.Path.{_≡_, refl}

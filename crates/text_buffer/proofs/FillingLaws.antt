@@ -1,5 +1,4 @@
 -- Text put into a buffer byte by byte, and that with room for it all of it stands behind what was in use.
--- Assumes nothing.
 use Prim.Native.Nat.{ℕ, suc, _+_, _<_, _≤_}
 use mathlib.Core.Bool.{Bool, cond}
 use mathlib.Core.List.{List, [], _∷_, _++_}

@@ -1,6 +1,5 @@
 -- What a step of a put or of a change that is no command's does to the record besides the work: at most it stores the reach, or it ends and counts one
 -- index. So a loop may keep the reach and that index beside the record.
--- Assumes nothing.
 use Prim.Native.Nat.{ℕ, zero, suc, _+_}
 use mathlib.Core.Path.{_≡_, refl, _∙_, sym, ap, subst}
 use mathlib.Core.Bool.{Bool, true, false, cond, false≢true}

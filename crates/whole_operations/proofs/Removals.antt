@@ -1,5 +1,4 @@
 -- What the steps of a removal do to the record besides the work: one count, of the index that it uncounts, and the reach.
--- Assumes nothing.
 use Prim.Native.Nat.{ℕ, zero, suc, _-_}
 use mathlib.Core.Path.{_≡_, refl, ap, _∙_, sym}
 use mathlib.Core.Bool.{Bool, true, false, cond, false≢true}

@@ -1,5 +1,4 @@
 -- Whole operations end: 2k + 2, k + 2 and k + 3 steps suffice, on every record.
--- Assumes nothing.
 use Prim.Native.Nat.{ℕ, zero, suc, _+_, _*_, _≤_}
 use mathlib.Core.Path.{_≡_, refl, ap, sym, transport}
 use mathlib.Core.Bool.{true, false, not}

@@ -1,6 +1,5 @@
 -- Laws of whole operations: a step while the operation is underway, none once it has ended or the budget is used up;
 -- a loop that takes these steps; and when a budget suffices.
--- Assumes nothing.
 use Prim.Native.Nat.{ℕ, zero, suc, _+_, _-_, _≤_, _<_}
 use mathlib.Core.Path.{_≡_, refl, ap, _∙_, sym, transport}
 use mathlib.Core.Bool.{Bool, true, false, cond, false≢true}

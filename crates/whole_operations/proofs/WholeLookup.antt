@@ -1,6 +1,5 @@
 -- A whole lookup ends: its k + 1 steps suffice, on every record; and it leaves the record as it was. The number of readers is that of the machine's
 -- array, which the definitions' lists do not carry.
--- Assumes nothing.
 use Prim.Native.Nat.{ℕ, zero, suc, _+_, _≤_, _<_}
 use mathlib.Core.Path.{_≡_, refl, ap, _∙_, sym, transport}
 use mathlib.Core.Bool.{Bool, true, false, cond, not, false≢true}

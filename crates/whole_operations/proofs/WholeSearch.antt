@@ -1,5 +1,4 @@
 -- A whole search: over slots that stay as they are, the steps of an operation's search come to what `searchEnd` says, and the operation goes on from there.
--- Assumes nothing.
 use Prim.Native.Nat.{ℕ, zero, suc, _+_, _-_, _≤_, _<_}
 use mathlib.Core.Path.{_≡_, refl, ap, _∙_, sym, transport}
 use mathlib.Core.Bool.{Bool, true, false, cond}

@@ -1,5 +1,4 @@
 -- A whole operation of the writer from what its loop gives: refused, or stepped to its end, where the writer is as idle as it was before.
--- Assumes nothing.
 use Prim.Native.Nat.{ℕ, _≤_}
 use mathlib.Core.Path.{_≡_, refl, ap, _∙_, sym, subst}
 use mathlib.Core.Bool.{true, false, not, false≢true}

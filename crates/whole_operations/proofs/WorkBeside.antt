@@ -1,6 +1,5 @@
 -- The parts of the writer's step look at the work that they are given, not at the work in the record: so a loop may keep the work beside the
 -- record, and the step of the record with that work put back comes to the same.
--- Assumes nothing.
 use Prim.Native.Nat.{ℕ, zero, suc}
 use mathlib.Core.Path.{_≡_, refl, ap, _∙_, sym}
 use mathlib.Core.Bool.{true, cond}

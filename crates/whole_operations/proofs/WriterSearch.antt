@@ -1,5 +1,4 @@
 -- The search of a put, change or removal as one: the operation goes on with what the search's answer leads to.
--- Assumes nothing.
 use Prim.Native.Nat.{ℕ, suc, _≤_}
 use mathlib.Core.Path.{_≡_, refl, ap, _∙_, sym, subst}
 use mathlib.Core.Bool.{true, false, not, false≢true}

@@ -1,6 +1,5 @@
 -- What the writer's starts and step come to on a record in range: they are refused, but not with 1, or the writer has its work, or the step's three parts are
 -- carried out.
--- Assumes nothing.
 use Prim.Native.Nat.{ℕ}
 use mathlib.Core.Bool.{Bool, true, false, not}
 use mathlib.Core.Path.{_≡_, refl}

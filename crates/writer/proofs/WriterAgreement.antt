@@ -1,5 +1,4 @@
 -- A step of the writer, where the table agrees with a plain list: it comes to one of the cases of `StepOK`, whatever the operation.
--- Assumes nothing.
 use Prim.Native.Nat.{ℕ}
 use mathlib.Core.Bool.{true, false, false≢true}
 use mathlib.Core.Path.{_≡_, refl, sym}

@@ -1,6 +1,5 @@
 -- Laws of the writer's calls, for whoever reasons about orders of calls: a step does what its access says and leaves the rest, keeps a record in range,
 -- and takes one of the steps that are left; a put takes at most 2k + 2, a change k + 2, a removal k + 3.
--- Assumes nothing.
 use Prim.Native.Nat.{ℕ, zero, suc, _+_, _≤_, _<_}
 use mathlib.Core.Path.{_≡_, refl, ap, _∙_, sym, transport}
 use mathlib.Core.Bool.{true, false, not, false≢true}

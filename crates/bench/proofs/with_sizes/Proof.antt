@@ -1,5 +1,4 @@
 -- `bench::with_sizes` lends slots that there are.
--- Assumes nothing.
 use native.Mathlib.Omega.{arith}
 use borrow.Author.Needs.{needs}
 use lib.ListN.{length-take}

@@ -1,12 +1,8 @@
 -- `change::action_masks` meets its contract, action by action.
--- Assumes nothing.
 use borrow.Author.Tests.{ne-eqb}
 use Rattle.change.specs.Change.{actionMasks}
 use Rattle.change.proofs.action_masks.Statement.{statement}
 use Rattle.change.proofs.action_masks.Tie as tie
-
--- `change::action_masks` meets its contract, action by action.
--- Assumes nothing.
 
 returns : tie.Need-returns
 unfolding actionMasks

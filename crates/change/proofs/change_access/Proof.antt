@@ -1,5 +1,4 @@
 -- `change::change_access` meets its contract, stage by stage.
--- Assumes nothing.
 use mathlib.Core.Path.{_∙_, ap}
 use borrow.Author.Needs.{needs}
 use Rattle.slot_words.specs.Word.{wordOf}
@@ -7,9 +6,6 @@ use Rattle.moves.specs.Memory.{storeWord}
 use Rattle.change.specs.Change.{changeAccess, changeStageAccess}
 use Rattle.change.proofs.change_access.Statement.{statement}
 use Rattle.change.proofs.change_access.Tie as tie
-
--- `change::change_access` meets its contract, stage by stage.
--- Assumes nothing.
 
 enum-known-stage : tie.Need-enum-known-stage
 enum-known-stage c = search needs

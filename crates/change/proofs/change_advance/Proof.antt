@@ -1,5 +1,4 @@
 -- `change::change_advance` meets its contract, stage by stage.
--- Assumes nothing.
 use borrow.Author.Needs.{needs}
 use Rattle.change.specs.Change.{changeAdvance, changeStageAdvance}
 use Rattle.change.proofs.change_advance.Statement.{statement}

@@ -1,5 +1,4 @@
 -- `change::change_answered` meets its contract: found, or not.
--- Assumes nothing.
 use borrow.Author.Needs.{needs}
 use Rattle.change.specs.Change.{changeAnswered}
 use Rattle.change.proofs.change_answered.Statement.{statement}

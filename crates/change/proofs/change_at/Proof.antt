@@ -1,5 +1,4 @@
 -- `change::change_at` meets its contract by that of `underway`.
--- Assumes nothing.
 use borrow.Author.Needs.{needs}
 use Rattle.change.specs.Change.{changeAt}
 use Rattle.change.proofs.change_at.Statement.{statement}

@@ -1,5 +1,4 @@
 -- `change::change_searched` meets its contract, by how the search stands.
--- Assumes nothing.
 use borrow.Author.Needs.{needs}
 use Rattle.change.specs.Change.{changeSearched}
 use Rattle.change.proofs.change_searched.Statement.{statement}

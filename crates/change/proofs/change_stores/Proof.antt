@@ -1,5 +1,4 @@
 -- `change::change_stores` meets its contract by those of its parts.
--- Assumes nothing.
 use borrow.Author.Needs.{needs}
 use Rattle.change.specs.Change.{changeStores}
 use Rattle.change.proofs.change_stores.Statement.{statement}

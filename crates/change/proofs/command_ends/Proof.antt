@@ -1,5 +1,4 @@
 -- `change::command_ends` meets its contract: given or commanded.
--- Assumes nothing.
 use borrow.Author.Needs.{needs}
 use Rattle.change.specs.Change.{commandEnds, alterationEnds}
 use Rattle.change.proofs.command_ends.Statement.{statement}

@@ -1,5 +1,4 @@
 -- `change::masks_of` meets its contract: given or commanded.
--- Assumes nothing.
 use borrow.Author.Needs.{needs}
 use Rattle.change.specs.Change.{masksOf}
 use Rattle.change.proofs.masks_of.Statement.{statement}

@@ -1,5 +1,4 @@
 -- `change::new_value` meets its contract by that of its masks.
--- Assumes nothing.
 use borrow.Author.Needs.{needs}
 use Rattle.change.specs.Change.{newValue}
 use Rattle.change.proofs.new_value.Statement.{statement}

@@ -1,5 +1,4 @@
 -- `command::answer_received` meets its contract, by what was received.
--- Assumes nothing.
 use mathlib.Core.Path.{sym, ap, _∙_}
 use Rattle.answers.specs.Answers.{unlessRefused}
 use Rattle.answers.proofs.AnswerLaws.{refused-outcome}

@@ -1,5 +1,4 @@
 -- `command::change_starts` meets its contract: refused if the writer has work, else its work is the change.
--- Assumes nothing.
 use mathlib.Core.Path.{_≡_, sym, ap, _∙_}
 use borrow.Author.Tests.{not-true, not-false}
 use mathlib.Core.Bool.{true, false}

@@ -1,5 +1,4 @@
 -- `command::in_turn` meets its contract, by its test.
--- Assumes nothing.
 use borrow.Author.Tests.{eq-eqb, ne-eqb}
 use Rattle.command.specs.Command.{inTurn}
 use borrow.Author.Needs.{needs}

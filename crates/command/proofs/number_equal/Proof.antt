@@ -1,5 +1,4 @@
 -- `command::number_equal` meets its contract, by its test.
--- Assumes nothing.
 use mathlib.Core.Path.{_≡_, sym, _∙_}
 use Rattle.command.specs.Command.{numberEqual}
 use mathlib.Core.Bool.{true, false}

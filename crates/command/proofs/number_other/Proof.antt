@@ -1,5 +1,4 @@
 -- `command::number_other` meets its contract, by its test.
--- Assumes nothing.
 use Prim.Native.Nat.{_+_}
 use mathlib.Core.Logic.{_≢_}
 use mathlib.Core.Path.{_≡_}

@@ -1,5 +1,4 @@
 -- `command::receive_command` meets its contract: an empty string, another map byte, or what the frame reader says.
--- Assumes nothing.
 use mathlib.Core.Path.{sym, ap, _∙_}
 use borrow.Author.Tests.{eq-eqb, ne-eqb}
 use denote.Ref.{now}

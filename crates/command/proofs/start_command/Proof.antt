@@ -1,5 +1,4 @@
 -- `command::start_command` meets its contract: refusal 1, or the answer to what the bytes are taken for.
--- Assumes nothing.
 use mathlib.Core.Path.{sym, ap, _∙_}
 use borrow.Author.Tests.{not-true, not-false}
 use denote.Ref.{now}

@@ -1,5 +1,4 @@
 -- `command::with_change` meets its contract: the writer's work is replaced, and nothing else of the record.
--- Assumes nothing.
 use borrow.Author.Needs.{needs}
 use Rattle.command.proofs.with_change.Statement.{statement}
 use Rattle.command.proofs.with_change.Tie as tie

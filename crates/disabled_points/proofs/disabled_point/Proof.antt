@@ -1,5 +1,4 @@
 -- `disabled_points::disabled_point` meets its contract: the lowest of the disabled points is one of them.
--- Assumes nothing.
 use Prim.Native.Nat.{ℕ, _<_}
 use mathlib.Core.Path.{_≡_, _∙_, sym, ap}
 use native.Mathlib.Omega.{arith}

@@ -1,5 +1,4 @@
 -- `disabled_points::disabled_total` meets its contract, by its test; the count fits, since the slots are at most 4096.
--- Assumes nothing.
 use Prim.Native.Nat.{ℕ}
 use mathlib.Core.List.{[], _∷_}
 use mathlib.Core.Path.{_∙_, sym, ap}

@@ -1,5 +1,4 @@
 -- `disabled_points::holds_disabled` meets its contract: it joins its tests as the definition does.
--- Assumes nothing.
 use borrow.Author.Needs.{needs}
 use Rattle.disabled_points.specs.Disabled.{holdsDisabled}
 use Rattle.disabled_points.proofs.holds_disabled.Statement.{statement}

@@ -1,5 +1,4 @@
 -- `disabled_points::is_disabled` meets its contract, by its text.
--- Assumes nothing.
 use mathlib.Core.Path.{refl}
 use Rattle.disabled_points.specs.Disabled.{disabled}
 use Rattle.disabled_points.proofs.is_disabled.Statement.{statement}

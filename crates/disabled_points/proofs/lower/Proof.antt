@@ -1,5 +1,4 @@
 -- `disabled_points::lower` meets its contract, by its two tests.
--- Assumes nothing.
 use Prim.Native.Nat.{ℕ}
 use mathlib.Core.Path.{_∙_, sym, ap, ap₂}
 use native.Mathlib.Omega.{arith}

@@ -1,5 +1,4 @@
 -- `disabled_points::lowest_disabled` meets its contract: the least so far and the slots left give the lowest of all.
--- Assumes nothing.
 use Prim.Native.Nat.{ℕ, _+_, _-_, _≤_, min}
 use mathlib.Core.Path.{_≡_, _∙_, ap}
 use native.Mathlib.Omega.{arith}

@@ -1,5 +1,4 @@
 -- `hash::coefficient` meets its contract: outside the table a law's case, inside it the table's test, carried to the entry.
--- Assumes nothing.
 use Prim.Native.Nat.{_+_, _-_}
 use mathlib.Core.Path.{_≡_, sym, ap, _∙_}
 use native.Mathlib.Omega.{arith}

@@ -1,5 +1,4 @@
 -- `hash::first_coefficients` meets its contract: the entries copied so far are the table's, and those follow the recurrence.
--- Assumes nothing.
 use Prim.Native.Nat.{ℕ, _+_, _-_, _≤_, _<_}
 use mathlib.Core.Path.{_≡_, refl, _∙_}
 use native.Mathlib.Omega.{arith}

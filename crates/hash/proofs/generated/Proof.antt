@@ -1,5 +1,4 @@
 -- `hash::generated` meets its contract: after `counter` turns the value is z(counter).
--- Assumes nothing.
 use Prim.Native.Nat.{_≤_, _-_}
 use mathlib.Core.Path.{_≡_, refl, sym, ap, _∙_}
 use native.Mathlib.Numerals.{add-one}

@@ -1,5 +1,4 @@
 -- `hash::mixed` meets its contract: the products of 32-bit numbers fit 64 bits, and a remainder fits its divisor's type.
--- Assumes nothing.
 use Prim.Native.Nat.{_+_, _*_, _%_}
 use native.Mathlib.Nat.{mod-lt}
 use native.Mathlib.Omega.{arith}

@@ -1,6 +1,5 @@
 -- `hash::position` meets its contract: outside its range each early return is a law's case, inside it the two entries are
 -- z(2i - 1) and z(2i).
--- Assumes nothing.
 use Prim.Native.Nat.{ℕ}
 use mathlib.Core.Path.{sym, ap₂, _∙_}
 use native.Mathlib.Omega.{arith}

@@ -1,5 +1,4 @@
 -- `history::apply` meets its contract, call by call.
--- Assumes nothing.
 use mathlib.Core.Path.{_∙_, sym, ap}
 use denote.Ref.{now}
 use Rattle.history.specs.declared.Call.{Call}

@@ -1,5 +1,4 @@
 -- `plain_rows::feed` meets its contract, by whether the slices hold the rows.
--- Assumes nothing.
 use mathlib.Core.Path.{_∙_, sym}
 use borrow.Author.Needs.{needs}
 use denote.Ref.{now}

@@ -1,5 +1,4 @@
 -- `plain_rows::feed_rows` meets its contract, operation by operation.
--- Assumes nothing.
 use mathlib.Core.Path.{refl}
 use borrow.Author.Needs.{needs}
 use denote.Ref.{now}

@@ -1,5 +1,4 @@
 -- `put::put_access` meets its contract, stage by stage.
--- Assumes nothing.
 use mathlib.Core.Path.{_∙_, ap}
 use borrow.Author.Tests.{lt-ltb, le-ltb}
 use borrow.Author.Needs.{needs}
@@ -7,9 +6,6 @@ use Rattle.moves.specs.Memory.{storeWord}
 use Rattle.put.specs.Put.{exceeds, putAccess, putStageAccess}
 use Rattle.put.proofs.put_access.Statement.{statement}
 use Rattle.put.proofs.put_access.Tie as tie
-
--- `put::put_access` meets its contract, stage by stage.
--- Assumes nothing.
 
 word-of-requires : tie.Need-word-of-requires
 word-of-requires c κs = search needs

@@ -1,5 +1,4 @@
 -- `put::put_advance` meets its contract, stage by stage.
--- Assumes nothing.
 use borrow.Author.Needs.{needs}
 use Rattle.put.specs.Put.{putAdvance, putStageAdvance}
 use Rattle.put.proofs.put_advance.Statement.{statement}

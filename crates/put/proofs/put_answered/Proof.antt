@@ -1,5 +1,4 @@
 -- `put::put_answered` meets its contract: found, or not.
--- Assumes nothing.
 use borrow.Author.Needs.{needs}
 use Rattle.put.specs.Put.{putAnswered}
 use Rattle.put.proofs.put_answered.Statement.{statement}

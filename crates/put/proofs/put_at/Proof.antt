@@ -1,5 +1,4 @@
 -- `put::put_at` meets its contract by that of `underway`.
--- Assumes nothing.
 use borrow.Author.Needs.{needs}
 use Rattle.put.specs.Put.{putAt}
 use Rattle.put.proofs.put_at.Statement.{statement}

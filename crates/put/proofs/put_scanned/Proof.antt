@@ -1,13 +1,9 @@
 -- `put::put_scanned` meets its contract, by its two tests.
--- Assumes nothing.
 use borrow.Author.Tests.{lt-ltb, le-ltb, eq-eqb, ne-eqb}
 use borrow.Author.Needs.{needs}
 use Rattle.put.specs.Put.{putScanned}
 use Rattle.put.proofs.put_scanned.Statement.{statement}
 use Rattle.put.proofs.put_scanned.Tie as tie
-
--- `put::put_scanned` meets its contract, by its two tests.
--- Assumes nothing.
 
 put-at-requires : tie.Need-put-at-requires
 put-at-requires c κs = search needs

@@ -1,5 +1,4 @@
 -- `put::put_searched` meets its contract, by how the search stands.
--- Assumes nothing.
 use borrow.Author.Needs.{needs}
 use Rattle.put.specs.Put.{putSearched}
 use Rattle.put.proofs.put_searched.Statement.{statement}

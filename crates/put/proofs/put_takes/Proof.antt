@@ -1,5 +1,4 @@
 -- `put::put_takes` meets its contract, by its test.
--- Assumes nothing.
 use Prim.Native.Nat.{ℕ}
 use mathlib.Core.Path.{_∙_, ap}
 use borrow.Author.Tests.{lt-ltb, le-ltb}
@@ -10,9 +9,6 @@ use Rattle.moves.specs.Moves.{ends}
 use Rattle.put.specs.Put.{exceeds, putTakes}
 use Rattle.put.proofs.put_takes.Statement.{statement}
 use Rattle.put.proofs.put_takes.Tie as tie
-
--- `put::put_takes` meets its contract, by its test.
--- Assumes nothing.
 
 returns : tie.Need-returns
 unfolding exceeds putTakes

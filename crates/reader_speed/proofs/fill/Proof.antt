@@ -1,5 +1,4 @@
 -- `reader_speed::fill` ends: it counts up to point 200.
--- Assumes nothing.
 use Prim.Native.Nat.{_-_, _≤_}
 use mathlib.Core.Path.{_≡_}
 use borrow.Author.Needs.{needs}

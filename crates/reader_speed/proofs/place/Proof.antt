@@ -1,5 +1,4 @@
 -- `reader_speed::place` ends: it counts up to index 4.
--- Assumes nothing.
 use Prim.Native.Nat.{_-_, _≤_}
 use mathlib.Core.Path.{_≡_}
 use borrow.Author.Needs.{needs}

@@ -1,5 +1,4 @@
 -- `reader_speed::run` ends: it counts up to the number of turns.
--- Assumes nothing.
 use Prim.Native.Nat.{_-_, _≤_}
 use borrow.Author.Needs.{needs}
 use Rattle.reader_speed.proofs.run.Statement.{statement}

@@ -1,5 +1,4 @@
 -- `reader_step::has_no_work` meets its contract, case by case.
--- Assumes nothing.
 use borrow.Author.Needs.{needs}
 use Rattle.reader_step.specs.Reader.{isIdle}
 use Rattle.reader_step.proofs.has_no_work.Statement.{statement}

@@ -7,10 +7,8 @@ use Rattle.reader_step.proofs.lookup_advance.Statement.{statement}
 use Rattle.reader_step.proofs.lookup_advance.Tie as tie
 
 -- `reader_step::lookup_advance` meets its contract, by how the search stands.
--- Assumes nothing.
 
 -- `reader_step::lookup_advance` meets its contract, by how the search stands.
--- Assumes nothing.
 
 search-advance-requires : tie.Need-search-advance-requires
 search-advance-requires c κs = search needs

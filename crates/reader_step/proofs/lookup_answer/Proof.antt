@@ -1,5 +1,4 @@
 -- `reader_step::lookup_answer` meets its contract, case by case.
--- Assumes nothing.
 use borrow.Author.Needs.{needs}
 use Rattle.reader_step.specs.Reader.{lookupAnswer}
 use Rattle.reader_step.proofs.lookup_answer.Statement.{statement}

@@ -1,5 +1,4 @@
 -- `reader_step::reader_access` meets its contract, case by case.
--- Assumes nothing.
 use borrow.Author.Needs.{needs}
 use Rattle.reader_step.specs.Reader.{readerAccess}
 use Rattle.reader_step.proofs.reader_access.Statement.{statement}

@@ -1,5 +1,4 @@
 -- `reader_step::reader_advance` meets its contract, case by case.
--- Assumes nothing.
 use borrow.Author.Needs.{needs}
 use Rattle.reader_step.specs.Reader.{readerAdvance}
 use Rattle.reader_step.proofs.reader_advance.Statement.{statement}

@@ -1,5 +1,4 @@
 -- `reader_step::step_reader` meets its contract: the three parts, one after the other.
--- Assumes nothing.
 use Prim.Native.Nat.{ℕ}
 use mathlib.Core.Path.{_∙_, sym, ap}
 use borrow.Author.Needs.{needs}

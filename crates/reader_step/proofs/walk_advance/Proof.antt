@@ -1,5 +1,4 @@
 -- `reader_step::walk_advance` meets its contract, by its test.
--- Assumes nothing.
 use Prim.Native.Nat.{_+_}
 use native.Mathlib.Omega.{arith}
 use borrow.Author.Tests.{lt-ltb, le-ltb}

@@ -1,5 +1,4 @@
 -- `record_ranges::are_counts_in_range` meets its contract: what is left of the first k counts passes exactly if all of them do.
--- Assumes nothing.
 use Prim.Native.Nat.{ℕ, _≤_, _-_}
 use mathlib.Core.Path.{_≡_, _∙_, sym, refl}
 use mathlib.Core.Bool.{Bool}

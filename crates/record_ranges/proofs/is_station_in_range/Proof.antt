@@ -1,5 +1,4 @@
 -- `record_ranges::is_station_in_range` meets its contract: number 0 settles the definition's tests, any other leaves them.
--- Assumes nothing.
 use native.Mathlib.Omega.{arith}
 use borrow.Author.Needs.{needs}
 use borrow.Author.Tests.{le-leb, eq-eqb, ne-eqb}

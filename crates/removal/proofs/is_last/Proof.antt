@@ -1,5 +1,4 @@
 -- `removal::is_last` meets its contract by those of its parts.
--- Assumes nothing.
 use borrow.Author.Needs.{needs}
 use Rattle.removal.specs.Removal.{isLast}
 use Rattle.removal.proofs.is_last.Statement.{statement}

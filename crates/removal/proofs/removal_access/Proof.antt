@@ -1,14 +1,10 @@
 -- `removal::removal_access` meets its contract, stage by stage.
--- Assumes nothing.
 use mathlib.Core.Path.{ap}
 use borrow.Author.Needs.{needs}
 use Rattle.removal.specs.Removal.{removalAccess, removalStageAccess}
 use Rattle.moves.specs.declared.memory.WriterAccess.the-variants.{Read, StoreReach}
 use Rattle.removal.proofs.removal_access.Statement.{statement}
 use Rattle.removal.proofs.removal_access.Tie as tie
-
--- `removal::removal_access` meets its contract, stage by stage.
--- Assumes nothing.
 
 enum-known-stage : tie.Need-enum-known-stage
 enum-known-stage c = search needs

@@ -1,17 +1,10 @@
 -- `removal::removal_advance` meets its contract, stage by stage.
--- Assumes nothing.
 use mathlib.Core.Path.{_∙_, sym, ap}
 use borrow.Author.Needs.{needs}
 use Rattle.record.specs.declared.RemovalStage.{RemovalStage}
 use Rattle.removal.specs.Removal.{removalAdvance, removalStageAdvance, removalSearched}
 use Rattle.removal.proofs.removal_advance.Statement.{statement}
 use Rattle.removal.proofs.removal_advance.Tie as tie
-
--- `removal::removal_advance` meets its contract, stage by stage.
--- Assumes nothing.
-
--- `removal::removal_advance` meets its contract, stage by stage.
--- Assumes nothing.
 
 enum-known-stage : tie.Need-enum-known-stage
 enum-known-stage c = search needs

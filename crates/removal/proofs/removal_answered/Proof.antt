@@ -1,5 +1,4 @@
 -- `removal::removal_answered` meets its contract: found, or not.
--- Assumes nothing.
 use borrow.Author.Needs.{needs}
 use Rattle.removal.specs.Removal.{removalAnswered}
 use Rattle.removal.proofs.removal_answered.Statement.{statement}

@@ -1,5 +1,4 @@
 -- `removal::removal_at` meets its contract, field by field.
--- Assumes nothing.
 use Rattle.removal.specs.Removal.{removalAt}
 use Rattle.removal.proofs.removal_at.Statement.{statement}
 use Rattle.removal.proofs.removal_at.Tie as tie

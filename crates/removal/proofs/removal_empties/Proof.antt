@@ -1,13 +1,9 @@
 -- `removal::removal_empties` meets its contract, by its test.
--- Assumes nothing.
 use mathlib.Core.Path.{_∙_, sym}
 use borrow.Author.Needs.{needs}
 use Rattle.removal.specs.Removal.{removalEmpties}
 use Rattle.removal.proofs.removal_empties.Statement.{statement}
 use Rattle.removal.proofs.removal_empties.Tie as tie
-
--- `removal::removal_empties` meets its contract, by its test.
--- Assumes nothing.
 
 is-last-requires : tie.Need-is-last-requires
 is-last-requires c κs = search needs

@@ -1,5 +1,4 @@
 -- `removal::removal_lowers` meets its contract, by that of `largest_counted`.
--- Assumes nothing.
 use borrow.Author.Needs.{needs}
 use Rattle.removal.specs.Removal.{removalLowers}
 use Rattle.removal.proofs.removal_lowers.Statement.{statement}

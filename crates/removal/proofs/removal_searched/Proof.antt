@@ -1,5 +1,4 @@
 -- `removal::removal_searched` meets its contract, by how the search stands.
--- Assumes nothing.
 use borrow.Author.Needs.{needs}
 use Rattle.removal.specs.Removal.{removalSearched}
 use Rattle.removal.proofs.removal_searched.Statement.{statement}

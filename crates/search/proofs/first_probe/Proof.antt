@@ -1,5 +1,4 @@
 -- `search::first_probe` meets its contract, by its test.
--- Assumes nothing.
 use borrow.Author.Tests.{eq-eqb, ne-eqb}
 use Rattle.search.specs.Search.{firstProbe}
 use Rattle.search.proofs.first_probe.Statement.{statement}

@@ -1,5 +1,4 @@
 -- `search::search_access` meets its contract, case by case.
--- Assumes nothing.
 use borrow.Author.Needs.{needs}
 use Rattle.search.specs.Search.{searchAccess}
 use Rattle.search.proofs.search_access.Statement.{statement}

@@ -1,5 +1,4 @@
 -- `search::search_advance` meets its contract, case by case.
--- Assumes nothing.
 use borrow.Author.Needs.{needs}
 use Rattle.search.specs.Search.{searchAdvance}
 use Rattle.search.proofs.search_advance.Statement.{statement}

@@ -1,5 +1,4 @@
 -- `text_buffer::byte` meets its contract, by whether there is room.
--- Assumes nothing.
 use borrow.Author.Tests.{lt-ltb, le-ltb}
 use Rattle.text_buffer.specs.Filling.{withByte}
 use borrow.Author.Needs.{needs}

@@ -1,5 +1,4 @@
 -- `text_buffer::decimal` meets its contract: the digits are those of `io::decimal`.
--- Assumes nothing.
 use mathlib.Core.Path.{ap, _∙_}
 use denote.Ref.{now}
 use Rattle.text_buffer.specs.Filling.{filledBy, withBytes}

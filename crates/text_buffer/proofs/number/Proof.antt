@@ -1,5 +1,4 @@
 -- `text_buffer::number` meets its contract: the digits behind the space.
--- Assumes nothing.
 use mathlib.Core.Path.{subst}
 use Rattle.text_buffer.specs.Filling.{Filled, filledBy, WithDecimal}
 use borrow.Author.Needs.{needs}

@@ -1,5 +1,4 @@
 -- `text_buffer::text` meets its contract: what is in the buffer and the bytes that are left come to the whole.
--- Assumes nothing.
 use Prim.Native.Nat.{_+_, _-_, _≤_}
 use mathlib.Core.Path.{_≡_, refl, sym, ap, _∙_}
 use denote.Ref.{now}

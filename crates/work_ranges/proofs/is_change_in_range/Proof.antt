@@ -1,5 +1,4 @@
 -- `work_ranges::is_change_in_range` meets its contract: it joins its tests as the definition does.
--- Assumes nothing.
 use borrow.Author.Needs.{needs}
 use Rattle.work_ranges.specs.WorkRanges.{changeInRange}
 use Rattle.work_ranges.proofs.is_change_in_range.Statement.{statement}

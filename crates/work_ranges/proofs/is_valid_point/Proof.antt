@@ -1,5 +1,4 @@
 -- `work_ranges::is_valid_point` meets its contract: it joins its tests as the definition does.
--- Assumes nothing.
 use borrow.Author.Needs.{needs}
 use Rattle.work_ranges.specs.WorkRanges.{validPoint}
 use Rattle.work_ranges.proofs.is_valid_point.Statement.{statement}

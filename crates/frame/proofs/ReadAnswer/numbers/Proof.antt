@@ -1,5 +1,4 @@
 -- `frame::ReadAnswer::numbers` meets its contract, case by case.
--- Assumes nothing.
 use borrow.Author.Needs.{needs}
 use Rattle.frame.proofs.ReadAnswer.numbers.Statement.{statement}
 use Rattle.frame.proofs.ReadAnswer.numbers.Tie as tie

@@ -1,5 +1,4 @@
 -- `frame::big_endian::byte_at` meets its contract: past the end `getD` gives its default.
--- Assumes nothing.
 use mathlib.Core.Path.{sym}
 use lib.ListN.{List·getD-eq-default}
 use denote.Ref.{now}

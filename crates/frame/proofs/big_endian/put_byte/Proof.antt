@@ -1,5 +1,4 @@
 -- `frame::big_endian::put_byte` meets its contract: past the end `set` leaves the list.
--- Assumes nothing.
 use mathlib.Core.Path.{sym}
 use lib.Seq.{set-out}
 use denote.Ref.{now}

@@ -1,5 +1,4 @@
 -- `frame::big_endian::put_number` meets its contract: the bytes still to store, stored, would make what the whole run makes.
--- Assumes nothing.
 use Prim.Native.Nat.{suc, _≤_, _-_}
 use mathlib.Core.Path.{_≡_, refl, ap, _∙_}
 use native.Mathlib.Omega.{arith}

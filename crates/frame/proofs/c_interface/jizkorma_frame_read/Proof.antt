@@ -1,5 +1,4 @@
 -- `frame::c_interface::jizkorma_frame_read` meets its contract: it hands back the numbers of the reader's answer.
--- Assumes nothing.
 use mathlib.Core.Path.{_∙_}
 use borrow.Author.Needs.{needs}
 use Rattle.frame.proofs.c_interface.jizkorma_frame_read.Statement.{statement}

@@ -1,5 +1,4 @@
 -- `frame::c_interface::jizkorma_frame_write` meets its contract: it hands back the numbers of the writer's answer.
--- Assumes nothing.
 use mathlib.Core.Path.{sym, ap, _∙_}
 use Prim.Native.Nat.{ℕ}
 use Rattle.frame.specs.declared.WriteAnswer.{WriteAnswer}

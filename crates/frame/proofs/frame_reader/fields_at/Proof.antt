@@ -1,5 +1,4 @@
 -- `frame::frame_reader::fields_at` meets its contract, field by field.
--- Assumes nothing.
 use Rattle.frame.specs.Layouts.{fieldsAt}
 use borrow.Author.Needs.{needs}
 use Rattle.frame.proofs.frame_reader.fields_at.Statement.{statement}

@@ -1,5 +1,4 @@
 -- `frame::frame_reader::read` meets its contract: an empty string, a map byte that is not allowed, or what its layout gives.
--- Assumes nothing.
 use mathlib.Core.Path.{sym, ap, _∙_}
 use native.Mathlib.Omega.{arith}
 use borrow.Author.Tests.{eq-eqb, ne-eqb}

@@ -1,5 +1,4 @@
 -- `frame::frame_reader::read_by` meets its contract: the length decides, or the ranges' judge does.
--- Assumes nothing.
 use mathlib.Core.Path.{sym, ap, _∙_}
 use borrow.Author.Tests.{ne-eqb}
 use denote.Ref.{now}

@@ -1,5 +1,4 @@
 -- `frame::frame_writer::put_frame` meets its contract, store by store.
--- Assumes nothing.
 use Rattle.frame.specs.Layouts.{put, putFrame}
 use borrow.Author.Needs.{needs}
 use Rattle.frame.proofs.frame_writer.put_frame.Statement.{statement}

@@ -1,5 +1,4 @@
 -- `frame::frame_writer::write` meets its contract: the map byte, the ranges, the room, and then the stores.
--- Assumes nothing.
 use mathlib.Core.Path.{sym, ap, _∙_}
 use denote.Ref.{now}
 use Rattle.refusal.specs.Refusals.{numberOf}

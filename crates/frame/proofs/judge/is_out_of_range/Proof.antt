@@ -1,5 +1,4 @@
 -- `frame::judge::is_out_of_range` meets its contract, by those of the tests that it joins.
--- Assumes nothing.
 use borrow.Author.Needs.{needs}
 use Rattle.frame.proofs.judge.is_out_of_range.Statement.{statement}
 use Rattle.frame.proofs.judge.is_out_of_range.Tie as tie

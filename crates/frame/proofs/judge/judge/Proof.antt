@@ -1,5 +1,4 @@
 -- `frame::judge::judge` meets its contract: each return has the tests before it failed and its own held.
--- Assumes nothing.
 use mathlib.Core.Path.{sym, _∙_}
 use Rattle.refusal.specs.Judging.{refuseIf}
 use Rattle.frame.specs.Frames.{judged}

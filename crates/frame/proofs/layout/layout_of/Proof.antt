@@ -1,5 +1,4 @@
 -- `frame::layout::layout_of` meets its contract: at each of the six map bytes the field map's places compute to the row of the table.
--- Assumes nothing.
 use borrow.Author.Tests.{ne-eqb}
 use Rattle.frame.specs.FieldMap.{hasBit, start}
 use Rattle.frame.specs.Layouts.{laid, layoutOf}

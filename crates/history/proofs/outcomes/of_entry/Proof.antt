@@ -1,5 +1,4 @@
 -- `history::outcomes::of_entry` meets its contract: an answer of the command entry, case by case.
--- Assumes nothing.
 use borrow.Author.Needs.{needs}
 use Rattle.history.proofs.outcomes.of_entry.Statement.{statement}
 use Rattle.history.proofs.outcomes.of_entry.Tie as tie

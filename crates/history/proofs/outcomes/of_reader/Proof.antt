@@ -1,5 +1,4 @@
 -- `history::outcomes::of_reader` meets its contract: an answer of a reader's step, case by case.
--- Assumes nothing.
 use borrow.Author.Needs.{needs}
 use Rattle.history.proofs.outcomes.of_reader.Statement.{statement}
 use Rattle.history.proofs.outcomes.of_reader.Tie as tie

@@ -1,5 +1,4 @@
 -- `history::outcomes::of_start` meets its contract: an answer of a start, case by case.
--- Assumes nothing.
 use borrow.Author.Needs.{needs}
 use Rattle.history.proofs.outcomes.of_start.Statement.{statement}
 use Rattle.history.proofs.outcomes.of_start.Tie as tie

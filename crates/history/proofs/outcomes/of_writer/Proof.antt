@@ -1,5 +1,4 @@
 -- `history::outcomes::of_writer` meets its contract: an answer of the writer's step, case by case.
--- Assumes nothing.
 use borrow.Author.Needs.{needs}
 use Rattle.history.proofs.outcomes.of_writer.Statement.{statement}
 use Rattle.history.proofs.outcomes.of_writer.Tie as tie

@@ -1,5 +1,4 @@
 -- `line::commands::command_of` meets its contract, by the number of fields.
--- Assumes nothing.
 use borrow.Author.Needs.{needs}
 use Rattle.line.specs.LineState.{commandOf, commandWith}
 use Rattle.line.proofs.commands.command_of.Statement.{statement}

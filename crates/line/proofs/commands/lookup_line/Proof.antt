@@ -1,5 +1,4 @@
 -- `line::commands::lookup_line` meets its contract, by the number or its want.
--- Assumes nothing.
 use borrow.Author.Needs.{needs}
 use Rattle.line.specs.Grammar.{lookupLine}
 use Rattle.line.proofs.commands.lookup_line.Statement.{statement}

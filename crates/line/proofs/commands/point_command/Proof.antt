@@ -1,5 +1,4 @@
 -- `line::commands::point_command` meets its contract, by the two letters that it asks for.
--- Assumes nothing.
 use mathlib.Core.Path.{_∙_, sym, ap}
 use borrow.Author.Needs.{needs}
 use Rattle.line.specs.Grammar.{lookupLine, removalLine}

@@ -1,5 +1,4 @@
 -- `line::commands::put_command` meets its contract, by the letter that it asks for.
--- Assumes nothing.
 use mathlib.Core.Path.{_∙_, sym}
 use borrow.Author.Needs.{needs}
 use Rattle.line.specs.LineState.{putCommand}

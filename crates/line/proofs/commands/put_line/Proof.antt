@@ -1,5 +1,4 @@
 -- `line::commands::put_line` meets its contract, by the two numbers or the want of one.
--- Assumes nothing.
 use borrow.Author.Needs.{needs}
 use Rattle.line.specs.Grammar.{putLine}
 use Rattle.line.proofs.commands.put_line.Statement.{statement}

@@ -1,5 +1,4 @@
 -- `line::commands::removal_line` meets its contract, by the number or its want.
--- Assumes nothing.
 use borrow.Author.Needs.{needs}
 use Rattle.line.specs.Grammar.{removalLine}
 use Rattle.line.proofs.commands.removal_line.Statement.{statement}

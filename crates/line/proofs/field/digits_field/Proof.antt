@@ -1,5 +1,4 @@
 -- `line::field::digits_field` meets its contract, by its test.
--- Assumes nothing.
 use borrow.Author.Tests.{eq-eqb, ne-eqb}
 use borrow.Author.Needs.{needs}
 use Rattle.line.specs.LineState.{digitsField}

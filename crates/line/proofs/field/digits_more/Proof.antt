@@ -1,5 +1,4 @@
 -- `line::field::digits_more` meets its contract, by its two tests; a digit is at least 48.
--- Assumes nothing.
 use mathlib.Core.Path.{_∙_, sym}
 use native.Mathlib.Omega.{arith}
 use borrow.Author.Tests.{lt-ltb, le-ltb}

@@ -1,5 +1,4 @@
 -- `line::field::field_more` meets its contract, case by case.
--- Assumes nothing.
 use borrow.Author.Needs.{needs}
 use Rattle.line.specs.LineState.{fieldMore}
 use Rattle.line.proofs.field.field_more.Statement.{statement}

@@ -1,5 +1,4 @@
 -- `line::field::first_byte` meets its contract, by its test.
--- Assumes nothing.
 use mathlib.Core.Path.{_∙_, sym}
 use borrow.Author.Needs.{needs}
 use Rattle.line.specs.LineState.{firstByte}

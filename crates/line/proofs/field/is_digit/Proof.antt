@@ -1,5 +1,4 @@
 -- `line::field::is_digit` meets its contract: it is a range.
--- Assumes nothing.
 use borrow.Author.Needs.{needs}
 use Rattle.line.specs.Grammar.{digit}
 use Rattle.line.proofs.field.is_digit.Statement.{statement}

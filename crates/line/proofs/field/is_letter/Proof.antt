@@ -1,5 +1,4 @@
 -- `line::field::is_letter` meets its contract, case by case.
--- Assumes nothing.
 use borrow.Author.Needs.{needs}
 use Rattle.line.specs.LineState.{isLetterField}
 use Rattle.line.proofs.field.is_letter.Statement.{statement}

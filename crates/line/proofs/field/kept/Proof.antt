@@ -1,5 +1,4 @@
 -- `line::field::kept` meets its contract, by its test.
--- Assumes nothing.
 use borrow.Author.Tests.{le-leb, lt-leb}
 use borrow.Author.Needs.{needs}
 use Rattle.line.specs.LineState.{kept}

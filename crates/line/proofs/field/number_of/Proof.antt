@@ -1,5 +1,4 @@
 -- `line::field::number_of` meets its contract, case by case.
--- Assumes nothing.
 use borrow.Author.Needs.{needs}
 use Rattle.line.specs.LineState.{numberOf}
 use Rattle.line.proofs.field.number_of.Statement.{statement}

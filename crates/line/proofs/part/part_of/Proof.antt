@@ -1,5 +1,4 @@
 -- `line::part::part_of` meets its contract: what the line so far makes of the bytes left is what the line makes of all.
--- Assumes nothing.
 use Prim.Native.Nat.{_-_}
 use mathlib.Core.Path.{_≡_, sym, _∙_}
 use native.Mathlib.Omega.{arith}

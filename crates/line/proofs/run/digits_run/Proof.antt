@@ -1,5 +1,4 @@
 -- `line::run::digits_run` meets its contract: at each place the digits read so far and those left make up the run.
--- Assumes nothing.
 use Prim.Native.Nat.{_-_, _≤_}
 use mathlib.Core.Logic.{⊎-elim}
 use mathlib.Core.List.{[]}

@@ -1,5 +1,4 @@
 -- `line::sizes::sizes_line` meets its contract, by the two numbers or the want of one.
--- Assumes nothing.
 use borrow.Author.Needs.{needs}
 use Rattle.line.specs.Grammar.{sizesLine}
 use Rattle.line.proofs.sizes.sizes_line.Statement.{statement}

@@ -1,5 +1,4 @@
 -- `line::sizes::sizes_of` meets its contract, by the number of fields.
--- Assumes nothing.
 use borrow.Author.Needs.{needs}
 use Rattle.line.specs.LineState.{sizesOf, sizesWith}
 use Rattle.line.proofs.sizes.sizes_of.Statement.{statement}

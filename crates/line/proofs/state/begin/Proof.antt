@@ -1,5 +1,4 @@
 -- `line::state::begin` meets its contract, by computation.
--- Assumes nothing.
 use mathlib.Core.Path.{refl}
 use Rattle.line.specs.LineState.{lineBegin}
 use Rattle.line.proofs.state.begin.Statement.{statement}

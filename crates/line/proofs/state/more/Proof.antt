@@ -1,5 +1,4 @@
 -- `line::state::more` meets its contract, by its test for a space.
--- Assumes nothing.
 use borrow.Author.Tests.{eq-eqb, ne-eqb}
 use borrow.Author.Needs.{needs}
 use Rattle.line.specs.LineState.{nextField, sameField, lineMore}

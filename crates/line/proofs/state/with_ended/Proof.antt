@@ -1,5 +1,4 @@
 -- `line::state::with_ended` meets its contract, case by case.
--- Assumes nothing.
 use borrow.Author.Needs.{needs}
 use Rattle.line.specs.LineState.{withEnded}
 use Rattle.line.proofs.state.with_ended.Statement.{statement}

@@ -1,5 +1,4 @@
 -- `moves::counts::largest_counted` meets its contract: from above, the first index that is counted.
--- Assumes nothing.
 use mathlib.Core.Path.{_≡_, refl, _∙_, sym, ap}
 use native.Mathlib.Omega.{arith}
 use borrow.Author.Needs.{needs}
@@ -7,9 +6,6 @@ use Rattle.moves.specs.Counts.{largestUpTo, largestCounted}
 use Rattle.moves.proofs.CountLaws.{largest-here, largest-below}
 use Rattle.moves.proofs.counts.largest_counted.Statement.{statement}
 use Rattle.moves.proofs.counts.largest_counted.Tie as tie
-
--- `moves::counts::largest_counted` meets its contract: from above, the first index that is counted.
--- Assumes nothing.
 
 abbrev Inv-loop : tie.InvT-loop
 Inv-loop panel index₀ index = largestUpTo panel index ≡ largestCounted panel

@@ -1,5 +1,4 @@
 -- `moves::counts::with_counted` meets its contract by those of its parts.
--- Assumes nothing.
 use mathlib.Core.Path.{_∙_, ap}
 use borrow.Author.Needs.{needs}
 use Rattle.record.specs.Parts.{withCount}

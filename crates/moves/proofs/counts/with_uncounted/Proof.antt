@@ -1,5 +1,4 @@
 -- `moves::counts::with_uncounted` meets its contract: one less, down to 0.
--- Assumes nothing.
 use mathlib.Core.Path.{_∙_, ap}
 use native.Mathlib.Omega.{arith}
 use borrow.Author.Needs.{needs}

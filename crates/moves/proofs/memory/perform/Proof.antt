@@ -1,5 +1,4 @@
 -- `moves::memory::perform` meets its contract, access by access.
--- Assumes nothing.
 use mathlib.Core.Path.{_∙_, sym, ap}
 use borrow.Author.Needs.{needs}
 use denote.Ref.{now}

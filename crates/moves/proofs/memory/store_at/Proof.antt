@@ -1,5 +1,4 @@
 -- `moves::memory::store_at` meets its contract: past the end there is no slot.
--- Assumes nothing.
 use mathlib.Core.Path.{refl, sym}
 use borrow.Author.Needs.{needs}
 use denote.Ref.{now}

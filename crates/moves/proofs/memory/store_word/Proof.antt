@@ -1,5 +1,4 @@
 -- `moves::memory::store_word` meets its contract by that of `position`.
--- Assumes nothing.
 use borrow.Author.Needs.{needs}
 use Rattle.moves.specs.Memory.{storeWord}
 use Rattle.moves.proofs.memory.store_word.Statement.{statement}

@@ -1,5 +1,4 @@
 -- `moves::update::ended` meets its contract, field by field.
--- Assumes nothing.
 use Rattle.moves.specs.Moves.{ends}
 use Rattle.moves.proofs.update.ended.Statement.{statement}
 use Rattle.moves.proofs.update.ended.Tie as tie

@@ -1,5 +1,4 @@
 -- `moves::update::underway` meets its contract, field by field.
--- Assumes nothing.
 use Rattle.moves.specs.Moves.{goesOn}
 use Rattle.moves.proofs.update.underway.Statement.{statement}
 use Rattle.moves.proofs.update.underway.Tie as tie

@@ -1,12 +1,8 @@
 -- `moves::update::with_update` meets its contract, case by case.
--- Assumes nothing.
 use borrow.Author.Needs.{needs}
 use Rattle.moves.specs.Moves.{updated}
 use Rattle.moves.proofs.update.with_update.Statement.{statement}
 use Rattle.moves.proofs.update.with_update.Tie as tie
-
--- `moves::update::with_update` meets its contract, case by case.
--- Assumes nothing.
 
 enum-told : tie.Need-enum-told
 enum-told c = search needs

@@ -1,5 +1,4 @@
 -- `orders::answer_kinds::has_ended` meets its contract, answer by answer.
--- Assumes nothing.
 use Rattle.answers.specs.Answers.{hasEnded}
 use borrow.Author.Needs.{needs}
 use Rattle.orders.proofs.answer_kinds.has_ended.Statement.{statement}

@@ -1,5 +1,4 @@
 -- `orders::answer_kinds::is_refused` meets its contract, answer by answer.
--- Assumes nothing.
 use Rattle.answers.specs.Answers.{isRefused}
 use borrow.Author.Needs.{needs}
 use Rattle.orders.proofs.answer_kinds.is_refused.Statement.{statement}

@@ -1,5 +1,4 @@
 -- `orders::answer_kinds::is_started` meets its contract, answer by answer.
--- Assumes nothing.
 use Rattle.answers.specs.Answers.{isStarted}
 use borrow.Author.Needs.{needs}
 use Rattle.orders.proofs.answer_kinds.is_started.Statement.{statement}

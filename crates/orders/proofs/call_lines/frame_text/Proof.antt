@@ -1,5 +1,4 @@
 -- `orders::call_lines::frame_text` ends: it goes over the frame once.
--- Assumes nothing.
 use Prim.Native.Nat.{_-_, _≤_}
 use mathlib.Core.Path.{_≡_}
 use borrow.Author.Needs.{needs}

@@ -1,5 +1,4 @@
 -- `orders::hexadecimal::frame_at` ends: it goes over the line once.
--- Assumes nothing.
 use Prim.Native.Nat.{_-_, _≤_}
 use mathlib.Core.Path.{_≡_}
 use borrow.Author.Needs.{needs}

@@ -1,5 +1,4 @@
 -- `orders::input::next_part` ends: it goes over the buffer once.
--- Assumes nothing.
 use Prim.Native.Nat.{_-_, _≤_}
 use mathlib.Core.Path.{_≡_}
 use borrow.Author.Needs.{needs}

@@ -1,5 +1,4 @@
 -- `orders::kept_list::begun` meets its contract, by whether the operation was started.
--- Assumes nothing.
 use mathlib.Core.Path.{sym, refl, _∙_}
 use Rattle.history.specs.World.{begunWriter}
 use borrow.Author.Needs.{needs}

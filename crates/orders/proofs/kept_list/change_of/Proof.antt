@@ -1,5 +1,4 @@
 -- `orders::kept_list::change_of` meets its contract.
--- Assumes nothing.
 use mathlib.Core.Path.{ap}
 use Rattle.record.specs.declared.Masks.{Masks}
 use Rattle.plain_list.specs.PlainList.{change}

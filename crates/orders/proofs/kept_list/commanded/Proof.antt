@@ -1,5 +1,4 @@
 -- `orders::kept_list::commanded` meets its contract: a frame that is a command has the fields that the frame reader gives.
--- Assumes nothing.
 use mathlib.Core.Path.{sym, ap, _∙_}
 use denote.Ref.{now}
 use Rattle.frame.specs.Answers.{paperRead}

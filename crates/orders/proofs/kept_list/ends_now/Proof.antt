@@ -1,5 +1,4 @@
 -- `orders::kept_list::ends_now` meets its contract.
--- Assumes nothing.
 use mathlib.Core.Path.{ap₂, _∙_}
 use Rattle.refusal.specs.Judging.{both}
 use Rattle.answers.specs.Answers.{paperCall}

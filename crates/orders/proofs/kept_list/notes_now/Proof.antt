@@ -1,5 +1,4 @@
 -- `orders::kept_list::notes_now` meets its contract, call by call.
--- Assumes nothing.
 use mathlib.Core.Bool.{Bool}
 use mathlib.Core.Path.{refl, sym, ap, subst, _∙_}
 use denote.Ref.{now}

@@ -1,5 +1,4 @@
 -- `orders::kept_list::rows_now` meets its contract, by whether the list is fed.
--- Assumes nothing.
 use mathlib.Core.Path.{refl, ap}
 use Rattle.plain_list.specs.PlainList.{Told}
 use borrow.Author.Needs.{needs}

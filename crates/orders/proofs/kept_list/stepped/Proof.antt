@@ -1,5 +1,4 @@
 -- `orders::kept_list::stepped` meets its contract.
--- Assumes nothing.
 use mathlib.Core.Path.{_∙_}
 use Rattle.history.specs.World.{steppedWriter}
 use Rattle.orders.proofs.KeptLaws.{fed-more}

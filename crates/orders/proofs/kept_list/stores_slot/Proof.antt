@@ -1,5 +1,4 @@
 -- `orders::kept_list::stores_slot` meets its contract, access by access.
--- Assumes nothing.
 use Rattle.moves.specs.Memory.{storesSlot}
 use borrow.Author.Needs.{needs}
 use Rattle.orders.proofs.kept_list.stores_slot.Statement.{statement}

@@ -1,5 +1,4 @@
 -- `orders::panel_state::carry_out` meets its contract: by `kept`, what it keeps is the world after the call.
--- Assumes nothing.
 use mathlib.Core.Path.{_≡_, ap}
 use denote.Ref.{now}
 use lib.ListN.{length}

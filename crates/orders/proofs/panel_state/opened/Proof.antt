@@ -1,5 +1,4 @@
 -- `orders::panel_state::opened` meets its contract: a fresh world has no row, and nothing is asked.
--- Assumes nothing.
 use mathlib.Core.Path.{refl, sym, _∙_}
 use lib.ListN.{length-replicate}
 use Rattle.plain_rows.specs.Rows.{rowsOf}

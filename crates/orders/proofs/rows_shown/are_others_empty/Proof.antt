@@ -1,5 +1,4 @@
 -- `orders::rows_shown::are_others_empty` meets its contract, by the slots so far.
--- Assumes nothing.
 use Prim.Native.Nat.{ℕ, _-_, _≤_}
 use mathlib.Core.Bool.{Bool}
 use mathlib.Core.Path.{_≡_, refl, ap, ap₂, _∙_}

@@ -1,5 +1,4 @@
 -- `orders::rows_shown::do_rows_stand` meets its contract, by the rows so far.
--- Assumes nothing.
 use Prim.Native.Nat.{ℕ, _-_, _≤_}
 use mathlib.Core.Path.{_≡_, refl, ap, ap₂, _∙_}
 use native.Mathlib.Omega.{arith}

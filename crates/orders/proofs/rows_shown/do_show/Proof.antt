@@ -1,5 +1,4 @@
 -- `orders::rows_shown::do_show` meets its contract: the two tests decide.
--- Assumes nothing.
 use mathlib.Core.Path.{ap₂, _∙_}
 use denote.Ref.{now}
 use Rattle.refusal.specs.Judging.{both}

@@ -1,5 +1,4 @@
 -- `orders::rows_shown::is_place` meets its contract, by the rows so far.
--- Assumes nothing.
 use Prim.Native.Nat.{ℕ, _-_, _≤_}
 use mathlib.Core.Bool.{Bool}
 use mathlib.Core.Path.{_≡_, refl, ap, ap₂, _∙_}

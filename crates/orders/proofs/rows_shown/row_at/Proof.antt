@@ -1,5 +1,4 @@
 -- `orders::rows_shown::row_at` ends: it goes over the rows once.
--- Assumes nothing.
 use Prim.Native.Nat.{_-_, _≤_}
 use borrow.Author.Needs.{needs}
 use Rattle.orders.proofs.rows_shown.row_at.Statement.{statement}

@@ -1,5 +1,4 @@
 -- `orders::showing::slot_lines` ends: it goes over the slots once.
--- Assumes nothing.
 use Prim.Native.Nat.{_-_, _≤_}
 use mathlib.Core.Path.{_≡_}
 use borrow.Author.Needs.{needs}

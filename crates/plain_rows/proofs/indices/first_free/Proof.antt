@@ -1,5 +1,4 @@
 -- `plain_rows::indices::first_free` meets its contract: each position up to the loop's is some row's place.
--- Assumes nothing.
 use Prim.Native.Nat.{ℕ, _+_, _-_, _≤_, _<_}
 use mathlib.Core.Bool.{true}
 use mathlib.Core.List.{List}

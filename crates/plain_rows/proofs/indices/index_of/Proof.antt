@@ -1,5 +1,4 @@
 -- `plain_rows::indices::index_of` meets its contract: no index passed has its position at the place.
--- Assumes nothing.
 use Prim.Native.Nat.{ℕ, _+_, _-_, _≤_, _<_}
 use mathlib.Core.Path.{_∙_, sym}
 use mathlib.Core.Logic.{_≢_}

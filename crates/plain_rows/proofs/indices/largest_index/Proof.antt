@@ -1,5 +1,4 @@
 -- `plain_rows::indices::largest_index` meets its contract: the largest index of the rows passed.
--- Assumes nothing.
 use Prim.Native.Nat.{ℕ, _-_, _≤_, max}
 use mathlib.Core.Path.{_≡_, refl, _∙_, sym, ap}
 use native.Mathlib.Omega.{arith}

@@ -1,5 +1,4 @@
 -- `plain_rows::operations::add_row` meets its contract: no position is free, there is no room, or the row is stored.
--- Assumes nothing.
 use mathlib.Core.Path.{_∙_, refl, sym}
 use native.Mathlib.Omega.{arith}
 use borrow.Author.Tests.{not-true, not-false}

@@ -1,5 +1,4 @@
 -- `plain_rows::operations::remove_row` meets its contract, by whether the point has a row.
--- Assumes nothing.
 use mathlib.Core.Path.{_≡_, _∙_, refl, sym, ap}
 use borrow.Author.Needs.{needs}
 use denote.Ref.{now}

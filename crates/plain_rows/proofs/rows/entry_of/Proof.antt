@@ -1,5 +1,4 @@
 -- `plain_rows::rows::entry_of` meets its contract: from the newest row down, the first of the point.
--- Assumes nothing.
 use Prim.Native.Nat.{ℕ, _-_, _≤_, _<_}
 use mathlib.Core.Path.{_≡_, refl, _∙_, sym, ap}
 use native.Mathlib.Omega.{arith}

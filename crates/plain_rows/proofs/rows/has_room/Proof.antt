@@ -1,5 +1,4 @@
 -- `plain_rows::rows::has_room` meets its contract.
--- Assumes nothing.
 use borrow.Author.Needs.{needs}
 use Rattle.plain_rows.specs.Rows.{hasRoom}
 use Rattle.plain_rows.proofs.rows.has_room.Statement.{statement}

@@ -1,5 +1,4 @@
 -- `plain_rows::rows::is_place` meets its contract: from the newest row down, none has the place so far.
--- Assumes nothing.
 use Prim.Native.Nat.{ℕ, _≤_}
 use mathlib.Core.List.{List}
 use mathlib.Core.Path.{_≡_, refl, _∙_, sym, ap}

@@ -1,5 +1,4 @@
 -- `plain_rows::rows::revalued` meets its contract, by its test.
--- Assumes nothing.
 use mathlib.Core.Path.{_∙_, sym}
 use borrow.Author.Tests.{eq-eqb, ne-eqb}
 use borrow.Author.Needs.{needs}

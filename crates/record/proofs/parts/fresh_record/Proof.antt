@@ -1,5 +1,4 @@
 -- `record::parts::fresh_record` meets its contract: the record that it makes is the definition's, field by field.
--- Assumes nothing.
 use mathlib.Core.Path.{ap}
 use borrow.Author.Needs.{needs}
 use lib.ListN.{replicate}

@@ -1,12 +1,8 @@
 -- `record::parts::with_reach` meets its contract: one field is replaced.
--- Assumes nothing.
 use mathlib.Core.Path.{refl}
 use Rattle.record.specs.Parts.{withReach}
 use Rattle.record.proofs.parts.with_reach.Statement.{statement}
 use Rattle.record.proofs.parts.with_reach.Tie as tie
-
--- `record::parts::with_reach` meets its contract: one field is replaced.
--- Assumes nothing.
 
 returns : tie.Need-returns
 unfolding withReach

@@ -1,5 +1,4 @@
 -- `record::parts::with_station` meets its contract: the element counted from 1 is replaced, or where there is none the record stays.
--- Assumes nothing.
 use mathlib.Core.Path.{_≡_, sym}
 use native.Mathlib.Omega.{arith}
 use borrow.Author.Needs.{needs}
@@ -9,9 +8,6 @@ use Rattle.record.proofs.Numbered.{mapped-length}
 use Rattle.record.proofs.Numbered.{replaced-zero, replaced-past, replaced-at}
 use Rattle.record.proofs.parts.with_station.Statement.{statement}
 use Rattle.record.proofs.parts.with_station.Tie as tie
-
--- `record::parts::with_station` meets its contract: the element counted from 1 is replaced, or where there is none the record stays.
--- Assumes nothing.
 
 returns : tie.Need-returns
 unfolding withStation

@@ -1,5 +1,4 @@
 -- `record::parts::with_work` meets its contract; above 15, where nothing is replaced, the definition replaces nothing either.
--- Assumes nothing.
 use mathlib.Core.Path.{_≡_, refl, sym}
 use native.Mathlib.Omega.{arith}
 use borrow.Author.Needs.{needs}

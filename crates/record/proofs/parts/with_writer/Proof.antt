@@ -1,5 +1,4 @@
 -- `record::parts::with_writer` meets its contract: the record that it makes is the definition's, field by field.
--- Assumes nothing.
 use mathlib.Core.Path.{refl}
 use Rattle.record.specs.Parts.{withWriter}
 use Rattle.record.proofs.parts.with_writer.Statement.{statement}

@@ -1,5 +1,4 @@
 -- `record::parts::work_of` meets its contract: an element of the sixteen, or past them what stands for one.
--- Assumes nothing.
 use mathlib.Core.Path.{_≡_, refl, ap, sym}
 use native.Mathlib.Omega.{arith}
 use borrow.Author.Needs.{needs}

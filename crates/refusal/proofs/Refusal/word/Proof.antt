@@ -1,5 +1,4 @@
 -- `refusal::Refusal::word` meets its contract: at each row the characters of its word compute to the letters handed over.
--- Assumes nothing.
 use borrow.Author.Needs.{needs}
 use Rattle.refusal.proofs.Refusal.word.Statement.{statement}
 use Rattle.refusal.proofs.Refusal.word.Tie as tie

@@ -1,5 +1,4 @@
 -- `refusal::tests::both_hold` meets its contract, by the two values of its first test.
--- Assumes nothing.
 use Rattle.refusal.specs.Judging.{both}
 use Rattle.refusal.proofs.tests.both_hold.Statement.{statement}
 use Rattle.refusal.proofs.tests.both_hold.Tie as tie

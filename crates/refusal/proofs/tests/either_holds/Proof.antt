@@ -1,5 +1,4 @@
 -- `refusal::tests::either_holds` meets its contract, by the two values of its first test.
--- Assumes nothing.
 use Rattle.refusal.specs.Judging.{either}
 use Rattle.refusal.proofs.tests.either_holds.Statement.{statement}
 use Rattle.refusal.proofs.tests.either_holds.Tie as tie

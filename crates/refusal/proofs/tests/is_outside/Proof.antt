@@ -1,5 +1,4 @@
 -- `refusal::tests::is_outside` meets its contract: the first comparison decides, or the second does.
--- Assumes nothing.
 use borrow.Author.Tests.{lt-ltb, le-ltb}
 use Rattle.refusal.specs.Judging.{outside}
 use Rattle.refusal.proofs.tests.is_outside.Statement.{statement}

@@ -1,5 +1,4 @@
 -- `refusal::tests::is_within` meets its contract: it joins the two comparisons.
--- Assumes nothing.
 use borrow.Author.Needs.{needs}
 use Rattle.refusal.specs.Judging.{within}
 use Rattle.refusal.proofs.tests.is_within.Statement.{statement}

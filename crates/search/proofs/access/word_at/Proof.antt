@@ -1,5 +1,4 @@
 -- `search::access::word_at` meets its contract: past the end there is no word.
--- Assumes nothing.
 use mathlib.Core.Path.{sym}
 use borrow.Author.Needs.{needs}
 use denote.Ref.{now}

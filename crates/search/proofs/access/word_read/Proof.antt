@@ -1,5 +1,4 @@
 -- `search::access::word_read` meets its contract, case by case.
--- Assumes nothing.
 use borrow.Author.Needs.{needs}
 use Rattle.search.specs.Access.{wordRead}
 use Rattle.search.proofs.access.word_read.Statement.{statement}

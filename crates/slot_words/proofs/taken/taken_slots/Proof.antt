@@ -1,5 +1,4 @@
 -- `slot_words::taken::taken_slots` meets its contract: the count so far and the slots left give the whole.
--- Assumes nothing.
 use Prim.Native.Nat.{_+_, _-_, _≤_}
 use mathlib.Core.Logic.{⊎-elim}
 use mathlib.Core.Path.{_≡_}

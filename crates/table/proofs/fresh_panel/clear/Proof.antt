@@ -1,5 +1,4 @@
 -- `table::fresh_panel::clear` meets its contract: the slots up to the loop's place are zeros.
--- Assumes nothing.
 use Prim.Native.Nat.{ℕ, _-_, _≤_, _<_}
 use mathlib.Core.List.{List, [], _∷_, _++_}
 use mathlib.Core.Path.{_≡_, refl, _∙_, sym, ap}

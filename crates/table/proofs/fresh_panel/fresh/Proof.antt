@@ -1,5 +1,4 @@
 -- `table::fresh_panel::fresh` meets its contract, by its test.
--- Assumes nothing.
 use mathlib.Core.List.{[]}
 use mathlib.Core.Path.{_∙_, sym, ap}
 use borrow.Author.Tests.{not-true, not-false}

@@ -1,5 +1,4 @@
 -- `text_buffer::output::flush` meets its contract: it writes a part of the buffer that is in it, and none is in use then.
--- Assumes nothing.
 use mathlib.Core.Path.{refl}
 use native.Mathlib.Omega.{arith}
 use borrow.Author.Needs.{needs}

@@ -1,5 +1,4 @@
 -- `text_buffer::output::room` meets its contract: the two tests say whether a line fits behind the bytes in use.
--- Assumes nothing.
 use Prim.Native.Nat.{_+_, _≤_}
 use mathlib.Core.Logic.{⊎-elim}
 use native.Mathlib.Omega.{arith}

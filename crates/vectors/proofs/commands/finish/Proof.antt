@@ -1,5 +1,4 @@
 -- `vectors::commands::finish` ends: it makes at most 6 steps.
--- Assumes nothing.
 use Prim.Native.Nat.{_-_, _≤_}
 use mathlib.Core.Path.{_≡_}
 use borrow.Author.Needs.{needs}

@@ -1,5 +1,4 @@
 -- `vectors::drawn_history::call` is safe: the part of the frame that it lends is within the buffer.
--- Assumes nothing.
 use native.Mathlib.Omega.{arith}
 use borrow.Author.Needs.{needs}
 use lib.ListN.{length-take}

@@ -1,5 +1,4 @@
 -- `vectors::drawn_history::calls` ends: it counts up to part 50.
--- Assumes nothing.
 use Prim.Native.Nat.{_-_, _≤_}
 use mathlib.Core.Path.{_≡_}
 use borrow.Author.Needs.{needs}

@@ -1,5 +1,4 @@
 -- `vectors::drawn_history::hundred` ends: it makes 100 calls.
--- Assumes nothing.
 use Prim.Native.Nat.{_-_, _≤_}
 use mathlib.Core.Path.{_≡_}
 use borrow.Author.Needs.{needs}

@@ -1,5 +1,4 @@
 -- `vectors::frames::hexadecimal` ends: it counts up to the slice's length.
--- Assumes nothing.
 use Prim.Native.Nat.{_≤_, _-_}
 use native.Mathlib.Omega.{arith}
 use lib.ListN.{length}

@@ -1,5 +1,4 @@
 -- `vectors::frames::write` is safe: the part of the buffer that it lends has the room asked for.
--- Assumes nothing.
 use native.Mathlib.Omega.{arith}
 use borrow.Author.Needs.{needs}
 use lib.ListN.{length-take}

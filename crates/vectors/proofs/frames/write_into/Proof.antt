@@ -1,5 +1,4 @@
 -- `vectors::frames::write_into` is safe: the frame that it reads back is a part of the buffer.
--- Assumes nothing.
 use native.Mathlib.Omega.{arith}
 use borrow.Author.Needs.{needs}
 use lib.ListN.{length-take}

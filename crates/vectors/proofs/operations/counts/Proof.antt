@@ -1,5 +1,4 @@
 -- `vectors::operations::counts` ends: it counts up to index 64.
--- Assumes nothing.
 use Prim.Native.Nat.{_-_, _≤_}
 use borrow.Author.Needs.{needs}
 use Rattle.vectors.proofs.operations.counts.Statement.{statement}

@@ -1,5 +1,4 @@
 -- `vectors::operations::finish` ends: it makes at most 10 steps.
--- Assumes nothing.
 use Prim.Native.Nat.{_-_, _≤_}
 use mathlib.Core.Path.{_≡_}
 use borrow.Author.Needs.{needs}

@@ -1,5 +1,4 @@
 -- `vectors::printing::refusal` is safe: a word's letters are in its array.
--- Assumes nothing.
 use native.Mathlib.Omega.{arith}
 use borrow.Author.Needs.{needs}
 use lib.ListN.{length-take}

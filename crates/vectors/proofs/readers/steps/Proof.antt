@@ -1,5 +1,4 @@
 -- `vectors::readers::steps` ends: it counts up to the number asked for.
--- Assumes nothing.
 use Prim.Native.Nat.{_-_, _≤_}
 use borrow.Author.Needs.{needs}
 use Rattle.vectors.proofs.readers.steps.Statement.{statement}

@@ -1,5 +1,4 @@
 -- `vectors::state_digest::readers_folded` ends: it counts up to reader 15.
--- Assumes nothing.
 use Prim.Native.Nat.{_-_, _≤_}
 use borrow.Author.Needs.{needs}
 use Rattle.vectors.proofs.state_digest.readers_folded.Statement.{statement}

@@ -1,5 +1,4 @@
 -- `vectors::state_digest::stations_folded` ends: it counts up to station 32.
--- Assumes nothing.
 use Prim.Native.Nat.{_-_, _≤_}
 use borrow.Author.Needs.{needs}
 use Rattle.vectors.proofs.state_digest.stations_folded.Statement.{statement}

@@ -1,5 +1,4 @@
 -- `whole_operations::lookup::whole_lookup` meets its contract: refused, or what its search comes to.
--- Assumes nothing.
 use Prim.Native.Nat.{ℕ, _+_}
 use mathlib.Core.Path.{refl, _∙_, sym, ap}
 use borrow.Author.Needs.{needs}

@@ -1,5 +1,4 @@
 -- `whole_operations::put_and_change::index_counted` meets its contract, case by case.
--- Assumes nothing.
 use borrow.Author.Needs.{needs}
 use Rattle.whole_operations.specs.WholeFacts.{indexCounted}
 use Rattle.whole_operations.proofs.put_and_change.index_counted.Statement.{statement}

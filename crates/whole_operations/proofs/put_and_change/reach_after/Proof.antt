@@ -1,5 +1,4 @@
 -- `whole_operations::put_and_change::reach_after` meets its contract, case by case.
--- Assumes nothing.
 use borrow.Author.Needs.{needs}
 use Rattle.record.specs.Parts.{withReach, withCount, withStation}
 use Rattle.moves.specs.Counts.{counted, uncounted}

@@ -1,6 +1,5 @@
 -- `whole_operations::put_and_change::steps` meets its contract: what is left to do from here comes to the same as the whole, for the record with the
 -- reach and the index that are kept beside it.
--- Assumes nothing.
 use Prim.Native.Nat.{ℕ, _-_, _≤_}
 use mathlib.Core.Bool.{Bool, true, cond}
 use mathlib.Core.Path.{_≡_, refl, _∙_, ap}

@@ -1,5 +1,4 @@
 -- `whole_operations::put_and_change::whole` meets its contract: refused, or searched and then stepped to the end.
--- Assumes nothing.
 use mathlib.Core.Path.{refl, _∙_, sym, ap}
 use borrow.Author.Needs.{needs}
 use denote.Ref.{now}

@@ -1,5 +1,4 @@
 -- `whole_operations::removing::index_uncounted` meets its contract, case by case.
--- Assumes nothing.
 use borrow.Author.Needs.{needs}
 use Rattle.whole_operations.specs.WholeFacts.{indexUncounted}
 use Rattle.whole_operations.proofs.removing.index_uncounted.Statement.{statement}

@@ -1,6 +1,5 @@
 -- `whole_operations::removing::steps` meets its contract: what is left to do from here comes to the same as the whole, and the record held is the first
 -- one but for the reach and one count.
--- Assumes nothing.
 use Prim.Native.Nat.{ℕ, _-_}
 use mathlib.Core.Bool.{Bool, cond}
 use mathlib.Core.Logic.{⊎-elim}

@@ -1,5 +1,4 @@
 -- `whole_operations::removing::whole_removal` meets its contract: refused, or searched and then stepped to the end.
--- Assumes nothing.
 use Prim.Native.Nat.{_+_}
 use mathlib.Core.Path.{refl, _∙_, sym, ap}
 use native.Mathlib.Omega.{arith}

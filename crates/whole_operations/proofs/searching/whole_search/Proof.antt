@@ -1,5 +1,4 @@
 -- `whole_operations::searching::whole_search` meets its contract: from each index on, the search comes to the same.
--- Assumes nothing.
 use Prim.Native.Nat.{_+_, _-_}
 use mathlib.Core.Path.{_∙_, sym, ap, subst}
 use native.Mathlib.Omega.{arith}

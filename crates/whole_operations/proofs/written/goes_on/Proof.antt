@@ -1,5 +1,4 @@
 -- `whole_operations::written::goes_on` meets its contract, case by case.
--- Assumes nothing.
 use borrow.Author.Needs.{needs}
 use Rattle.answers.specs.Answers.{isUnderway}
 use Rattle.whole_operations.proofs.written.goes_on.Statement.{statement}

@@ -1,5 +1,4 @@
 -- `whole_operations::written::unchanged` meets its contract: the reach as it was, and no count.
--- Assumes nothing.
 use mathlib.Core.Path.{refl}
 use Rattle.record.specs.Parts.{withReach, withNumbered, withCount}
 use Rattle.whole_operations.specs.Whole.{leaves}

@@ -1,5 +1,4 @@
 -- `whole_operations::written::with_written` meets its contract by those of its parts.
--- Assumes nothing.
 use borrow.Author.Needs.{needs}
 use Rattle.whole_operations.specs.Whole.{leaves}
 use Rattle.whole_operations.proofs.written.with_written.Statement.{statement}

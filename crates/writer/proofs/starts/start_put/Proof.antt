@@ -1,5 +1,4 @@
 -- `writer::starts::start_put` meets its contract: the work goes to `start_writer`.
--- Assumes nothing.
 use borrow.Author.Needs.{needs}
 use Rattle.writer.specs.Starts.{startPut}
 use Rattle.writer.proofs.starts.start_put.Statement.{statement}

@@ -1,5 +1,4 @@
 -- `writer::starts::start_removal` meets its contract: the work goes to `start_writer`.
--- Assumes nothing.
 use borrow.Author.Needs.{needs}
 use Rattle.writer.specs.Starts.{startRemoval}
 use Rattle.writer.proofs.starts.start_removal.Statement.{statement}

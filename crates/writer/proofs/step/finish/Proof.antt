@@ -1,5 +1,4 @@
 -- `writer::step::finish` meets its contract: the update, then the work.
--- Assumes nothing.
 use mathlib.Core.Path.{refl, _∙_, ap}
 use borrow.Author.Needs.{needs}
 use Rattle.record.specs.declared.Record.{Record}

@@ -1,5 +1,4 @@
 -- `writer::step::has_no_work` meets its contract, case by case.
--- Assumes nothing.
 use borrow.Author.Needs.{needs}
 use Rattle.moves.specs.Moves.{isIdle}
 use Rattle.writer.proofs.step.has_no_work.Statement.{statement}

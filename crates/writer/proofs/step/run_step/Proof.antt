@@ -1,5 +1,4 @@
 -- `writer::step::run_step` meets its contract: the three parts, one after the other.
--- Assumes nothing.
 use mathlib.Core.Path.{_∙_, ap}
 use borrow.Author.Needs.{needs}
 use denote.Ref.{now}

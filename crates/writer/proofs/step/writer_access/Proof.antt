@@ -1,12 +1,8 @@
 -- `writer::step::writer_access` meets its contract, case by case.
--- Assumes nothing.
 use borrow.Author.Needs.{needs}
 use Rattle.writer.specs.Step.{writerAccess}
 use Rattle.writer.proofs.step.writer_access.Statement.{statement}
 use Rattle.writer.proofs.step.writer_access.Tie as tie
-
--- `writer::step::writer_access` meets its contract, case by case.
--- Assumes nothing.
 
 enum-told : tie.Need-enum-told
 enum-told c = search needs

@@ -1,12 +1,8 @@
 -- `writer::step::writer_advance` meets its contract, case by case.
--- Assumes nothing.
 use borrow.Author.Needs.{needs}
 use Rattle.writer.specs.Step.{writerAdvance}
 use Rattle.writer.proofs.step.writer_advance.Statement.{statement}
 use Rattle.writer.proofs.step.writer_advance.Tie as tie
-
--- `writer::step::writer_advance` meets its contract, case by case.
--- Assumes nothing.
 
 enum-told : tie.Need-enum-told
 enum-told c = search needs

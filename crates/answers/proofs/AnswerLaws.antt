@@ -1,9 +1,9 @@
 -- A refused call leaves record and slots; and the paper's answers tell the cases of the enums apart, so that the contracts decide the enums too.
 use Prim.Native.Nat.{ℕ, zero, suc, _≤_}
 use mathlib.Core.Path.{_≡_, refl, ap}
-use mathlib.Core.List.{List, [], _∷_}
+use mathlib.Core.List.{List, []}
 use mathlib.Mathlib.Logic.Function.Defs.{LeftInverse·injective}
-use mathlib.Core.Bool.{cond}
+use mathlib.Core.Bool.{cond, false}
 use native.Mathlib.Omega.{arith}
 use lib.Dec.{eqb}
 use lib.ListN.{getD}
@@ -13,23 +13,29 @@ use Rattle.refusal.proofs.Laws.{rowOf, row-of-number, number-positive}
 use Rattle.record.specs.declared.Record.{Record}
 use Rattle.record.specs.declared.CommandAnswer.{CommandAnswer}
 use Rattle.record.specs.declared.CommandAnswer.the-variants.{Value, Unknown as CommandAnswer·Unknown}
+use Rattle.answers.specs.declared.Ending.{Ending as EndingEnum}
+use Rattle.answers.specs.declared.Ending.the-variants.{LookedUp, Placed, Changed, Removed, NoPerch, Unknown}
+use Rattle.answers.specs.declared.Progress.{Progress as ProgressEnum}
+use Rattle.answers.specs.declared.Progress.the-variants.{Underway as Progress·Underway, Ended as Progress·Ended}
+use Rattle.answers.specs.declared.StepResult.{StepResult}
+use Rattle.answers.specs.declared.StepResult.the-variants.{Underway as StepResult·Underway, Ended as StepResult·Ended, Walked, WalkedLast}
+use Rattle.answers.specs.declared.StepAnswer.{StepAnswer}
+use Rattle.answers.specs.declared.StepAnswer.the-variants.{Stepped as StepAnswer·Stepped, Refused as StepAnswer·Refused}
+use Rattle.answers.specs.declared.StartAnswer.{StartAnswer}
+use Rattle.answers.specs.declared.StartAnswer.the-variants.{Started as StartAnswer·Started, Refused as StartAnswer·Refused}
+use Rattle.answers.specs.declared.EntryAnswer.{EntryAnswer}
+use Rattle.answers.specs.declared.EntryAnswer.the-variants.{Started as EntryAnswer·Started, GivenAgain as EntryAnswer·GivenAgain, Refused as EntryAnswer·Refused}
+use Rattle.answers.specs.declared.CallAnswer.{CallAnswer}
+use Rattle.answers.specs.declared.CallAnswer.the-variants.{Started as CallAnswer·Started, GivenAgain as CallAnswer·GivenAgain, Stepped as CallAnswer·Stepped, Refused as CallAnswer·Refused}
+use Rattle.answers.specs.declared.WholeAnswer.{WholeAnswer}
+use Rattle.answers.specs.declared.WholeAnswer.the-variants.{Ended as WholeAnswer·Ended, Refused as WholeAnswer·Refused}
 use Rattle.answers.specs.declared.FreshAnswer.{FreshAnswer}
 use Rattle.answers.specs.declared.FreshAnswer.the-variants.{Made, Refused as FreshAnswer·Refused}
-use Rattle.answers.specs.declared.StartAnswer.{StartAnswer}
-use Rattle.answers.specs.declared.StartAnswer.the-variants.{Started, Refused as StartAnswer·Refused}
-use Rattle.answers.specs.declared.EntryAnswer.{EntryAnswer}
-use Rattle.answers.specs.declared.EntryAnswer.the-variants.{Started as EntryAnswer·Started, GivenAgain, Refused as EntryAnswer·Refused}
-use Rattle.answers.specs.declared.ReaderAnswer.{ReaderAnswer}
-use Rattle.answers.specs.declared.ReaderAnswer.the-variants.{Underway as ReaderAnswer·Underway, Found, Unknown as ReaderAnswer·Unknown, Word, LastWord, Refused as ReaderAnswer·Refused}
-use Rattle.answers.specs.declared.WriterAnswer.{WriterAnswer}
-use Rattle.answers.specs.declared.WriterAnswer.the-variants.{Underway as WriterAnswer·Underway, Placed, Changed, Removed, NoPerch, Unknown as WriterAnswer·Unknown, Refused as WriterAnswer·Refused}
-use Rattle.answers.specs.declared.CallAnswer.{CallAnswer}
-use Rattle.answers.specs.declared.CallAnswer.the-variants.{Started as CallAnswer·Started, GivenAgain as CallAnswer·GivenAgain, Underway as CallAnswer·Underway, LookedUp, Placed as CallAnswer·Placed, Changed as CallAnswer·Changed, Removed as CallAnswer·Removed, NoPerch as CallAnswer·NoPerch, Unknown as CallAnswer·Unknown, Walked, WalkedLast, Refused as CallAnswer·Refused}
 use Rattle.answers.specs.declared.TotalAnswer.{TotalAnswer}
 use Rattle.answers.specs.declared.TotalAnswer.the-variants.{Total, Refused as TotalAnswer·Refused}
 use Rattle.answers.specs.declared.DisplayAnswer.{DisplayAnswer}
 use Rattle.answers.specs.declared.DisplayAnswer.the-variants.{Shown, Refused as DisplayAnswer·Refused}
-use Rattle.answers.specs.Answers.{Answer, started, underway, lookedUp, placed, changed, removed, endedWith, walked, walkedLast, givenAgain, gives, refused, Outcome, outcome, unlessRefused, storedAnswer, paperFresh, paperStart, paperEntry, paperReader, paperWriter, paperCall, paperTotal, paperDisplay}
+use Rattle.answers.specs.Answers.{Ending, lookedUp, placed, changed, removed, endedWith, Answer, started, underway, ended, walked, walkedLast, givenAgain, gives, refused, Progress, continues, finishes, isStarted, isRefused, Outcome, outcome, unlessRefused, storedAnswer, paperEnding, paperProgress, paperResult, paperStep, paperStart, paperEntry, paperCall, paperWhole, paperFresh, paperTotal, paperDisplay}
 
 module _ (panel : Record) (slots : List ℕ) (done : Outcome) where
   by-number : (n : ℕ) → 1 ≤ n → unlessRefused n panel slots done ≡ outcome panel slots (refused n)
@@ -50,152 +56,195 @@ unfolding unlessRefused
 unless P zero panel slots done a b = b refl
 unless P (suc n) panel slots done a b = a _
 
--- which of the answers it is
-tag : Answer → ℕ
-tag started = 0
-tag underway = 1
-tag (lookedUp value) = 2
-tag (placed slot index) = 3
-tag (changed value) = 4
-tag (removed reach) = 5
-tag (endedWith n) = 6
-tag (walked word) = 7
-tag (walkedLast word) = 8
-tag (gives values) = 9
-tag (refused n) = 10
-tag (givenAgain answer) = 11
+-- a step that is carried out is no refusal and no start
+pub result-not-refused : (result : StepResult) → isRefused (paperResult result) ≡ false
+result-not-refused StepResult·Underway = refl
+result-not-refused (StepResult·Ended ending) = refl
+result-not-refused (Walked word) = refl
+result-not-refused (WalkedLast word) = refl
 
--- the number that it carries, or the first of two
-carried : Answer → ℕ
-carried started = 0
-carried underway = 0
-carried (lookedUp value) = value
-carried (placed slot index) = slot
-carried (changed value) = value
-carried (removed reach) = reach
-carried (endedWith n) = n
-carried (walked word) = word
-carried (walkedLast word) = word
-carried (givenAgain answer) = carried answer
-carried (gives values) = getD values 0 0
-carried (refused n) = n
+pub result-not-started : (result : StepResult) → isStarted (paperResult result) ≡ false
+result-not-started StepResult·Underway = refl
+result-not-started (StepResult·Ended ending) = refl
+result-not-started (Walked word) = refl
+result-not-started (WalkedLast word) = refl
 
--- the second of two
-carriedSecond : Answer → ℕ
-carriedSecond started = 0
-carriedSecond underway = 0
-carriedSecond (lookedUp value) = 0
-carriedSecond (placed slot index) = index
-carriedSecond (changed value) = 0
-carriedSecond (removed reach) = 0
-carriedSecond (endedWith n) = 0
-carriedSecond (walked word) = 0
-carriedSecond (walkedLast word) = 0
-carriedSecond (givenAgain answer) = tag answer
-carriedSecond (gives values) = 0
-carriedSecond (refused n) = 0
+-- the case of an enum from the paper's answer; an answer that the call never gives goes anywhere
+asEnding : Ending → EndingEnum
+asEnding (lookedUp value) = LookedUp value
+asEnding (placed slot index) = Placed (record { slot = slot; index = index })
+asEnding (changed value) = Changed value
+asEnding (removed reach) = Removed reach
+asEnding (endedWith n) = cond (eqb n 6) NoPerch Unknown
 
--- the cases of each enum by the answer's tag; a tag that the call never gives goes anywhere
-asFresh : Answer → FreshAnswer
-asFresh a = getD (Made ∷ Made ∷ Made ∷ Made ∷ Made ∷ Made ∷ Made ∷ Made ∷ Made ∷ Made ∷ FreshAnswer·Refused (rowOf (carried a)) ∷ []) (tag a) Made
+asProgress : Progress → ProgressEnum
+asProgress continues = Progress·Underway
+asProgress (finishes ending) = Progress·Ended (asEnding ending)
 
-asStart : Answer → StartAnswer
-asStart a = getD (Started ∷ Started ∷ Started ∷ Started ∷ Started ∷ Started ∷ Started ∷ Started ∷ Started ∷ Started ∷ StartAnswer·Refused (rowOf (carried a)) ∷ []) (tag a) Started
+asStored : Ending → CommandAnswer
+asStored (lookedUp value) = CommandAnswer·Unknown
+asStored (placed slot index) = CommandAnswer·Unknown
+asStored (changed value) = Value value
+asStored (removed reach) = CommandAnswer·Unknown
+asStored (endedWith n) = CommandAnswer·Unknown
 
--- a stored answer from its tag and number
-asStored : ℕ → ℕ → CommandAnswer
-asStored kind value = cond (eqb kind 4) (Value value) CommandAnswer·Unknown
-
-asEntry : Answer → EntryAnswer
-asEntry a = getD (EntryAnswer·Started ∷ EntryAnswer·Started ∷ EntryAnswer·Started ∷ EntryAnswer·Started ∷ EntryAnswer·Started ∷ EntryAnswer·Started ∷ EntryAnswer·Started ∷ EntryAnswer·Started ∷ EntryAnswer·Started ∷ EntryAnswer·Started ∷ EntryAnswer·Refused (rowOf (carried a)) ∷ GivenAgain (asStored (carriedSecond a) (carried a)) ∷ []) (tag a) EntryAnswer·Started
-
-asReader : Answer → ReaderAnswer
-asReader a = getD (ReaderAnswer·Underway ∷ ReaderAnswer·Underway ∷ Found (carried a) ∷ ReaderAnswer·Underway ∷ ReaderAnswer·Underway ∷ ReaderAnswer·Underway ∷ ReaderAnswer·Unknown ∷ Word (carried a) ∷ LastWord (carried a) ∷ ReaderAnswer·Underway ∷ ReaderAnswer·Refused (rowOf (carried a)) ∷ []) (tag a) ReaderAnswer·Underway
-
-asWriter : Answer → WriterAnswer
-asWriter a = getD (WriterAnswer·Underway ∷ WriterAnswer·Underway ∷ WriterAnswer·Underway ∷ Placed (record { slot = carried a; index = carriedSecond a }) ∷ Changed (carried a) ∷ Removed (carried a) ∷ cond (eqb (carried a) 6) NoPerch WriterAnswer·Unknown ∷ WriterAnswer·Underway ∷ WriterAnswer·Underway ∷ WriterAnswer·Underway ∷ WriterAnswer·Refused (rowOf (carried a)) ∷ []) (tag a) WriterAnswer·Underway
-
+-- any call's answer, by which those of steps, starts and the command entry are told too
 asCall : Answer → CallAnswer
-asCall a = getD (CallAnswer·Started ∷ CallAnswer·Underway ∷ LookedUp (carried a) ∷ CallAnswer·Placed (record { slot = carried a; index = carriedSecond a }) ∷ CallAnswer·Changed (carried a) ∷ CallAnswer·Removed (carried a) ∷ cond (eqb (carried a) 6) CallAnswer·NoPerch CallAnswer·Unknown ∷ Walked (carried a) ∷ WalkedLast (carried a) ∷ CallAnswer·Started ∷ CallAnswer·Refused (rowOf (carried a)) ∷ CallAnswer·GivenAgain (asStored (carriedSecond a) (carried a)) ∷ []) (tag a) CallAnswer·Started
+asCall started = CallAnswer·Started
+asCall underway = CallAnswer·Stepped StepResult·Underway
+asCall (ended ending) = CallAnswer·Stepped (StepResult·Ended (asEnding ending))
+asCall (walked word) = CallAnswer·Stepped (Walked word)
+asCall (walkedLast word) = CallAnswer·Stepped (WalkedLast word)
+asCall (givenAgain ending) = CallAnswer·GivenAgain (asStored ending)
+asCall (gives values) = CallAnswer·Started
+asCall (refused n) = CallAnswer·Refused (rowOf n)
+
+-- the same answer of each kind of call
+ofStep : CallAnswer → StepAnswer
+ofStep CallAnswer·Started = StepAnswer·Stepped StepResult·Underway
+ofStep (CallAnswer·GivenAgain answer) = StepAnswer·Stepped StepResult·Underway
+ofStep (CallAnswer·Stepped result) = StepAnswer·Stepped result
+ofStep (CallAnswer·Refused r) = StepAnswer·Refused r
+
+ofEntry : CallAnswer → EntryAnswer
+ofEntry CallAnswer·Started = EntryAnswer·Started
+ofEntry (CallAnswer·GivenAgain answer) = EntryAnswer·GivenAgain answer
+ofEntry (CallAnswer·Stepped result) = EntryAnswer·Started
+ofEntry (CallAnswer·Refused r) = EntryAnswer·Refused r
+
+ofStart : CallAnswer → StartAnswer
+ofStart CallAnswer·Started = StartAnswer·Started
+ofStart (CallAnswer·GivenAgain answer) = StartAnswer·Started
+ofStart (CallAnswer·Stepped result) = StartAnswer·Started
+ofStart (CallAnswer·Refused r) = StartAnswer·Refused r
+
+endingOf : StepResult → EndingEnum
+endingOf StepResult·Underway = Unknown
+endingOf (StepResult·Ended ending) = ending
+endingOf (Walked word) = Unknown
+endingOf (WalkedLast word) = Unknown
+
+ofWhole : CallAnswer → WholeAnswer
+ofWhole CallAnswer·Started = WholeAnswer·Ended Unknown
+ofWhole (CallAnswer·GivenAgain answer) = WholeAnswer·Ended Unknown
+ofWhole (CallAnswer·Stepped result) = WholeAnswer·Ended (endingOf result)
+ofWhole (CallAnswer·Refused r) = WholeAnswer·Refused r
+
+-- the number of a refusal, and the first of the values, of the calls without steps
+refusal : Answer → Refusal
+refusal started = rowOf 0
+refusal underway = rowOf 0
+refusal (ended ending) = rowOf 0
+refusal (walked word) = rowOf 0
+refusal (walkedLast word) = rowOf 0
+refusal (givenAgain ending) = rowOf 0
+refusal (gives values) = rowOf 0
+refusal (refused n) = rowOf n
+
+values : Answer → List ℕ
+values started = []
+values underway = []
+values (ended ending) = []
+values (walked word) = []
+values (walkedLast word) = []
+values (givenAgain ending) = []
+values (gives some) = some
+values (refused n) = []
+
+asFresh : Answer → FreshAnswer
+asFresh answer = cond (isRefused answer) (FreshAnswer·Refused (refusal answer)) Made
 
 asTotal : Answer → TotalAnswer
-asTotal a = getD (Total (carried a) ∷ Total (carried a) ∷ Total (carried a) ∷ Total (carried a) ∷ Total (carried a) ∷ Total (carried a) ∷ Total (carried a) ∷ Total (carried a) ∷ Total (carried a) ∷ Total (carried a) ∷ TotalAnswer·Refused (rowOf (carried a)) ∷ []) (tag a) (Total (carried a))
+asTotal answer = cond (isRefused answer) (TotalAnswer·Refused (refusal answer)) (Total (getD (values answer) 0 0))
 
 asDisplay : Answer → DisplayAnswer
-asDisplay a = getD (Shown (carried a) ∷ Shown (carried a) ∷ Shown (carried a) ∷ Shown (carried a) ∷ Shown (carried a) ∷ Shown (carried a) ∷ Shown (carried a) ∷ Shown (carried a) ∷ Shown (carried a) ∷ Shown (carried a) ∷ DisplayAnswer·Refused (rowOf (carried a)) ∷ []) (tag a) (Shown (carried a))
+asDisplay answer = cond (isRefused answer) (DisplayAnswer·Refused (refusal answer)) (Shown (getD (values answer) 0 0))
+
+ending-back : (a : EndingEnum) → asEnding (paperEnding a) ≡ a
+unfolding asEnding
+ending-back (LookedUp value) = refl
+ending-back (Placed spot) = refl
+ending-back (Changed value) = refl
+ending-back (Removed reach) = refl
+ending-back NoPerch = refl
+ending-back Unknown = refl
+
+stored-back : (a : CommandAnswer) → asStored (storedAnswer a) ≡ a
+unfolding asStored storedAnswer
+stored-back (Value value) = refl
+stored-back CommandAnswer·Unknown = refl
+
+result-back : (a : StepResult) → asCall (paperResult a) ≡ CallAnswer·Stepped a
+unfolding asCall
+result-back StepResult·Underway = refl
+result-back (StepResult·Ended ending) = ap (λ (e : EndingEnum). CallAnswer·Stepped (StepResult·Ended e)) (ending-back ending)
+result-back (Walked word) = refl
+result-back (WalkedLast word) = refl
+
+pub ending-tells : (a b : EndingEnum) → paperEnding a ≡ paperEnding b → a ≡ b
+ending-tells = LeftInverse·injective asEnding paperEnding ending-back
+
+pub progress-tells : (a b : ProgressEnum) → paperProgress a ≡ paperProgress b → a ≡ b
+unfolding asProgress
+progress-tells = LeftInverse·injective asProgress paperProgress back
+  where
+    back : (a : ProgressEnum) → asProgress (paperProgress a) ≡ a
+    back Progress·Underway = refl
+    back (Progress·Ended ending) = ap Progress·Ended (ending-back ending)
+
+pub call-tells : (a b : CallAnswer) → paperCall a ≡ paperCall b → a ≡ b
+unfolding asCall
+call-tells = LeftInverse·injective asCall paperCall back
+  where
+    back : (a : CallAnswer) → asCall (paperCall a) ≡ a
+    back CallAnswer·Started = refl
+    back (CallAnswer·GivenAgain answer) = ap CallAnswer·GivenAgain (stored-back answer)
+    back (CallAnswer·Stepped result) = result-back result
+    back (CallAnswer·Refused r) = ap CallAnswer·Refused (row-of-number r)
+
+pub step-tells : (a b : StepAnswer) → paperStep a ≡ paperStep b → a ≡ b
+unfolding asCall ofStep
+step-tells = LeftInverse·injective (λ (answer : Answer). ofStep (asCall answer)) paperStep back
+  where
+    back : (a : StepAnswer) → ofStep (asCall (paperStep a)) ≡ a
+    back (StepAnswer·Stepped result) = ap ofStep (result-back result)
+    back (StepAnswer·Refused r) = ap StepAnswer·Refused (row-of-number r)
+
+pub entry-tells : (a b : EntryAnswer) → paperEntry a ≡ paperEntry b → a ≡ b
+unfolding asCall ofEntry
+entry-tells = LeftInverse·injective (λ (answer : Answer). ofEntry (asCall answer)) paperEntry back
+  where
+    back : (a : EntryAnswer) → ofEntry (asCall (paperEntry a)) ≡ a
+    back EntryAnswer·Started = refl
+    back (EntryAnswer·GivenAgain answer) = ap EntryAnswer·GivenAgain (stored-back answer)
+    back (EntryAnswer·Refused r) = ap EntryAnswer·Refused (row-of-number r)
+
+pub start-tells : (a b : StartAnswer) → paperStart a ≡ paperStart b → a ≡ b
+unfolding asCall ofStart
+start-tells = LeftInverse·injective (λ (answer : Answer). ofStart (asCall answer)) paperStart back
+  where
+    back : (a : StartAnswer) → ofStart (asCall (paperStart a)) ≡ a
+    back StartAnswer·Started = refl
+    back (StartAnswer·Refused r) = ap StartAnswer·Refused (row-of-number r)
+
+pub whole-tells : (a b : WholeAnswer) → paperWhole a ≡ paperWhole b → a ≡ b
+unfolding asCall ofWhole endingOf
+whole-tells = LeftInverse·injective (λ (answer : Answer). ofWhole (asCall answer)) paperWhole back
+  where
+    back : (a : WholeAnswer) → ofWhole (asCall (paperWhole a)) ≡ a
+    back (WholeAnswer·Ended ending) = ap WholeAnswer·Ended (ending-back ending)
+    back (WholeAnswer·Refused r) = ap WholeAnswer·Refused (row-of-number r)
 
 pub fresh-tells : (a b : FreshAnswer) → paperFresh a ≡ paperFresh b → a ≡ b
-unfolding asFresh tag carried
+unfolding asFresh refusal
 fresh-tells = LeftInverse·injective asFresh paperFresh back
   where
     back : (a : FreshAnswer) → asFresh (paperFresh a) ≡ a
     back Made = refl
     back (FreshAnswer·Refused r) = ap FreshAnswer·Refused (row-of-number r)
 
-pub start-tells : (a b : StartAnswer) → paperStart a ≡ paperStart b → a ≡ b
-unfolding asStart tag carried
-start-tells = LeftInverse·injective asStart paperStart back
-  where
-    back : (a : StartAnswer) → asStart (paperStart a) ≡ a
-    back Started = refl
-    back (StartAnswer·Refused r) = ap StartAnswer·Refused (row-of-number r)
-
-pub entry-tells : (a b : EntryAnswer) → paperEntry a ≡ paperEntry b → a ≡ b
-unfolding asEntry asStored storedAnswer tag carried carriedSecond
-entry-tells = LeftInverse·injective asEntry paperEntry back
-  where
-    back : (a : EntryAnswer) → asEntry (paperEntry a) ≡ a
-    back EntryAnswer·Started = refl
-    back (GivenAgain (Value value)) = refl
-    back (GivenAgain CommandAnswer·Unknown) = refl
-    back (EntryAnswer·Refused r) = ap EntryAnswer·Refused (row-of-number r)
-
-pub reader-tells : (a b : ReaderAnswer) → paperReader a ≡ paperReader b → a ≡ b
-unfolding asReader tag carried
-reader-tells = LeftInverse·injective asReader paperReader back
-  where
-    back : (a : ReaderAnswer) → asReader (paperReader a) ≡ a
-    back ReaderAnswer·Underway = refl
-    back (Found value) = refl
-    back ReaderAnswer·Unknown = refl
-    back (Word word) = refl
-    back (LastWord word) = refl
-    back (ReaderAnswer·Refused r) = ap ReaderAnswer·Refused (row-of-number r)
-
-pub writer-tells : (a b : WriterAnswer) → paperWriter a ≡ paperWriter b → a ≡ b
-unfolding asWriter tag carried carriedSecond
-writer-tells = LeftInverse·injective asWriter paperWriter back
-  where
-    back : (a : WriterAnswer) → asWriter (paperWriter a) ≡ a
-    back WriterAnswer·Underway = refl
-    back (Placed spot) = refl
-    back (Changed value) = refl
-    back (Removed reach) = refl
-    back NoPerch = refl
-    back WriterAnswer·Unknown = refl
-    back (WriterAnswer·Refused r) = ap WriterAnswer·Refused (row-of-number r)
-
-pub call-tells : (a b : CallAnswer) → paperCall a ≡ paperCall b → a ≡ b
-unfolding asCall asStored storedAnswer tag carried carriedSecond
-call-tells = LeftInverse·injective asCall paperCall back
-  where
-    back : (a : CallAnswer) → asCall (paperCall a) ≡ a
-    back CallAnswer·Started = refl
-    back (CallAnswer·GivenAgain (Value value)) = refl
-    back (CallAnswer·GivenAgain CommandAnswer·Unknown) = refl
-    back CallAnswer·Underway = refl
-    back (LookedUp value) = refl
-    back (CallAnswer·Placed spot) = refl
-    back (CallAnswer·Changed value) = refl
-    back (CallAnswer·Removed reach) = refl
-    back CallAnswer·NoPerch = refl
-    back CallAnswer·Unknown = refl
-    back (Walked word) = refl
-    back (WalkedLast word) = refl
-    back (CallAnswer·Refused r) = ap CallAnswer·Refused (row-of-number r)
-
 pub total-tells : (a b : TotalAnswer) → paperTotal a ≡ paperTotal b → a ≡ b
-unfolding asTotal tag carried
+unfolding asTotal refusal values
 total-tells = LeftInverse·injective asTotal paperTotal back
   where
     back : (a : TotalAnswer) → asTotal (paperTotal a) ≡ a
@@ -203,7 +252,7 @@ total-tells = LeftInverse·injective asTotal paperTotal back
     back (TotalAnswer·Refused r) = ap TotalAnswer·Refused (row-of-number r)
 
 pub display-tells : (a b : DisplayAnswer) → paperDisplay a ≡ paperDisplay b → a ≡ b
-unfolding asDisplay tag carried
+unfolding asDisplay refusal values
 display-tells = LeftInverse·injective asDisplay paperDisplay back
   where
     back : (a : DisplayAnswer) → asDisplay (paperDisplay a) ≡ a

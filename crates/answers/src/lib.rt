@@ -1,10 +1,51 @@
-// What the calls answer, an enum for each kind of call.
+// What the calls answer, an enum for each kind of call, and what they leave besides the slots.
+ghost use mathlib.Core.Path.{_≡_};
+ghost use Rattle.answers.specs.Answers.{stepAnswer, paperProgress, paperResult};
 use record::CommandAnswer;
+use record::Record;
 use refusal::Refusal;
 
-// Of `fresh`.
-pub enum FreshAnswer {
-    Made,
+// What ends a lookup, put, change or removal.
+pub enum Ending {
+    // a lookup: the point's value
+    LookedUp(u32),
+    // a put: where the point is stored
+    Placed(Spot),
+    // a change: the new value
+    Changed(u32),
+    // a removal: the reach after it
+    Removed(u32),
+    // a put: refusal 6
+    NoPerch,
+    // a lookup, change or removal: refusal 7
+    Unknown,
+}
+
+// Where a put stored its point: the slot, and the index of the position.
+pub struct Spot {
+    pub slot: u32,
+    pub index: u32,
+}
+
+// What a put, change or removal comes to in a step.
+pub enum Progress {
+    Underway,
+    Ended(Ending),
+}
+
+// What a step gives that is carried out.
+pub enum StepResult {
+    Underway,
+    Ended(Ending),
+    // the word that a walk read
+    Walked(u64),
+    // the same, and the walk has ended
+    WalkedLast(u64),
+}
+
+// Of a step, a reader's or the writer's.
+pub enum StepAnswer {
+    Stepped(StepResult),
     Refused(Refusal),
 }
 
@@ -22,57 +63,23 @@ pub enum EntryAnswer {
     Refused(Refusal),
 }
 
-// Of a reader's step.
-pub enum ReaderAnswer {
-    Underway,
-    // the lookup has ended with the point's value
-    Found(u32),
-    // the lookup has ended with refusal 7
-    Unknown,
-    // the word that the walk read
-    Word(u64),
-    // the same, and the walk has ended
-    LastWord(u64),
-    Refused(Refusal),
-}
-
-// Of the writer's step.
-pub enum WriterAnswer {
-    Underway,
-    // the put has ended, the point stored there
-    Placed(Spot),
-    // the change has ended with the new value
-    Changed(u32),
-    // the removal has ended, with this reach after it
-    Removed(u32),
-    // the put has ended with refusal 6
-    NoPerch,
-    // the change or removal has ended with refusal 7
-    Unknown,
-    Refused(Refusal),
-}
-
-// Where a put stored its point: the slot, and the index of the position.
-pub struct Spot {
-    pub slot: u32,
-    pub index: u32,
-}
-
-// Of any call of a list: each answer of the kinds above once.
+// Of any call of a list: each answer of the three kinds above once.
 pub enum CallAnswer {
     Started,
     GivenAgain(CommandAnswer),
-    Underway,
-    LookedUp(u32),
-    Placed(Spot),
-    Changed(u32),
-    Removed(u32),
-    // the operation has ended with refusal 6
-    NoPerch,
-    // the operation has ended with refusal 7
-    Unknown,
-    Walked(u64),
-    WalkedLast(u64),
+    Stepped(StepResult),
+    Refused(Refusal),
+}
+
+// Of an operation that is carried out whole.
+pub enum WholeAnswer {
+    Ended(Ending),
+    Refused(Refusal),
+}
+
+// Of `fresh`.
+pub enum FreshAnswer {
+    Made,
     Refused(Refusal),
 }
 
@@ -86,4 +93,44 @@ pub enum TotalAnswer {
 pub enum DisplayAnswer {
     Shown(u32),
     Refused(Refusal),
+}
+
+// What a start leaves.
+pub struct StartOutcome {
+    pub panel: Record,
+    pub answer: StartAnswer,
+}
+
+// What the command entry leaves.
+pub struct EntryOutcome {
+    pub panel: Record,
+    pub answer: EntryAnswer,
+}
+
+// What a step leaves.
+pub struct StepOutcome {
+    pub panel: Record,
+    pub answer: StepAnswer,
+}
+
+// What any call of a list leaves.
+pub struct CallOutcome {
+    pub panel: Record,
+    pub answer: CallAnswer,
+}
+
+// What `fresh` leaves.
+pub struct FreshOutcome {
+    pub panel: Record,
+    pub answer: FreshAnswer,
+}
+
+// What a step gives, by what the put, change or removal has come to.
+pub fn result_of(progress: Progress) -> StepResult
+    ensures { λ r. ⌜ paperResult r ≡ stepAnswer (paperProgress progress) ⌝ }
+{
+    match progress {
+        Progress::Underway => StepResult::Underway,
+        Progress::Ended(ending) => StepResult::Ended(ending),
+    }
 }

@@ -3,35 +3,25 @@ use crate::printing;
 use line::CommandLine;
 use line::Line;
 use record::Record;
-use whole_operations::Written;
+use whole_operations::Changes;
 use whole_operations::whole_lookup;
 use whole_operations::whole_put;
 use whole_operations::whole_removal;
 
-// What a line leaves in the record (the reach, and the count of an index, or of none where that is 0),
-// and how much of the output's buffer is in use.
+// What a line changes in the record, and how much of the output's buffer is in use.
 pub(crate) struct Done {
-    pub reach: u32,
-    pub index: u32,
-    pub count: u32,
+    pub changes: Changes,
     pub filled: usize,
 }
 
 // A line that is no put and no removal leaves the record as it is.
 fn unchanged(panel: Record, filled: usize) -> Done {
     Done {
-        reach: panel.reach,
-        index: 0,
-        count: 0,
-        filled: filled,
-    }
-}
-
-fn changed(written: Written, filled: usize) -> Done {
-    Done {
-        reach: written.reach,
-        index: written.index,
-        count: written.count,
+        changes: Changes {
+            reach: panel.reach,
+            index: 0,
+            count: 0,
+        },
         filled: filled,
     }
 }
@@ -49,17 +39,28 @@ pub(crate) fn run_line(
     match line::command_of(line) {
         CommandLine::Put(put) => {
             let written = whole_put(panel, slots, put.point, put.value);
+            let changes = written.changes;
             let answer = written.answer;
-            changed(written, printing::put(filled, text, put.point, answer))
+            Done {
+                changes: changes,
+                filled: printing::operation(filled, text, b'P', put.point, answer),
+            }
         }
         CommandLine::Lookup(point) => {
             let answer = whole_lookup(panel, slots, 0, point);
-            unchanged(panel, printing::lookup(filled, text, point, answer))
+            unchanged(
+                panel,
+                printing::operation(filled, text, b'L', point, answer),
+            )
         }
         CommandLine::Removal(point) => {
             let written = whole_removal(panel, slots, point);
+            let changes = written.changes;
             let answer = written.answer;
-            changed(written, printing::removal(filled, text, point, answer))
+            Done {
+                changes: changes,
+                filled: printing::operation(filled, text, b'R', point, answer),
+            }
         }
         CommandLine::Unreadable => { unchanged(panel, printing::unreadable(filled, text, number)) }
     }

@@ -5,14 +5,16 @@ mod printing;
 
 use answers::FreshAnswer;
 use commands::run_line;
+use fresh_panel::fresh;
 use input::Reading;
 use input::first_line;
 use input::line_after;
 use input::read_on;
 use line::SizesLine;
 use record::Record;
-use table::fresh;
 use text_buffer::output::flush;
+use whole_operations::has_changes;
+use whole_operations::with_changes;
 
 fn main() {
     let mut slots = [0u64; 4096];
@@ -130,12 +132,9 @@ fn run_whole_lines(begun: Run, slots: &mut [u64], bytes: &[u8], text: &mut [u8])
         number = std::num::wrapping_add_u64(number, 1);
         let line = reading.line;
         let done = run_line(panel, slots, line, number, filled, text);
-        let index = done.index;
-        panel.reach = done.reach;
-        if 0 < index {
-            if index <= 64 {
-                panel.counts[(index - 1) as usize] = done.count;
-            }
+        let changes = done.changes;
+        if has_changes(changes, panel.reach) {
+            panel = with_changes(panel, changes);
         }
         filled = done.filled;
         reading = line_after(bytes, reading);

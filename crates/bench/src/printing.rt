@@ -1,7 +1,8 @@
 // The printed lines. Each function gives how much of the buffer is in use.
-use answers::ReaderAnswer;
-use answers::WriterAnswer;
+use answers::Ending;
+use answers::WholeAnswer;
 use refusal::Refusal;
+use text_buffer::byte;
 use text_buffer::line_end;
 use text_buffer::number;
 use text_buffer::text;
@@ -26,60 +27,37 @@ pub(crate) fn unreadable(filled: usize, out: &mut [u8], line: u64) -> usize {
 }
 
 // ""!" and a number a refusal, in place of what follows the point".
-fn refused(filled: usize, out: &mut [u8], refusal: u32) -> usize {
-    line_end(number(text(filled, out, b" !"), out, refusal as u64), out)
+fn refused(filled: usize, out: &mut [u8], refusal: Refusal) -> usize {
+    number(text(filled, out, b" !"), out, refusal.number() as u64)
 }
 
-// "P shows point, slot, index".
-pub(crate) fn put(filled: usize, out: &mut [u8], point: u32, answer: WriterAnswer) -> usize {
-    let named = number(text(filled, out, b"P"), out, point as u64);
-    let WriterAnswer::Placed(spot) = answer else {
-        return refused(named, out, writer_refusal(answer));
-    };
-    let slot = number(named, out, spot.slot as u64);
-    line_end(number(slot, out, spot.index as u64), out)
-}
-
-// "L point and value".
-pub(crate) fn lookup(filled: usize, out: &mut [u8], point: u32, answer: ReaderAnswer) -> usize {
-    let named = number(text(filled, out, b"L"), out, point as u64);
-    let ReaderAnswer::Found(value) = answer else {
-        return refused(named, out, reader_refusal(answer));
-    };
-    line_end(number(named, out, value as u64), out)
-}
-
-// "R point and reach after".
-pub(crate) fn removal(filled: usize, out: &mut [u8], point: u32, answer: WriterAnswer) -> usize {
-    let named = number(text(filled, out, b"R"), out, point as u64);
-    let WriterAnswer::Removed(reach) = answer else {
-        return refused(named, out, writer_refusal(answer));
-    };
-    line_end(number(named, out, reach as u64), out)
-}
-
-// The refusal with which an operation ended or was not started; 0 of the other answers.
-fn writer_refusal(answer: WriterAnswer) -> u32 {
-    match answer {
-        WriterAnswer::NoPerch => Refusal::NoPerch.number(),
-        WriterAnswer::Unknown => Refusal::Unknown.number(),
-        WriterAnswer::Refused(refusal) => refusal.number(),
-        WriterAnswer::Underway => 0,
-        WriterAnswer::Placed(_) => 0,
-        WriterAnswer::Changed(_) => 0,
-        WriterAnswer::Removed(_) => 0,
+// "P shows point, slot, index"; "L point and value"; "R point and reach after".
+fn ended(filled: usize, out: &mut [u8], ending: Ending) -> usize {
+    match ending {
+        Ending::LookedUp(value) => number(filled, out, value as u64),
+        Ending::Placed(spot) => {
+            let slot = number(filled, out, spot.slot as u64);
+            number(slot, out, spot.index as u64)
+        }
+        Ending::Changed(value) => number(filled, out, value as u64),
+        Ending::Removed(reach) => number(filled, out, reach as u64),
+        Ending::NoPerch => refused(filled, out, Refusal::NoPerch),
+        Ending::Unknown => refused(filled, out, Refusal::Unknown),
     }
 }
 
-// The same of a lookup.
-fn reader_refusal(answer: ReaderAnswer) -> u32 {
+// The line of an operation: its letter, the point, and what it came to.
+pub(crate) fn operation(
+    filled: usize,
+    out: &mut [u8],
+    letter: u8,
+    point: u32,
+    answer: WholeAnswer,
+) -> usize {
+    let named = number(byte(filled, out, letter), out, point as u64);
     match answer {
-        ReaderAnswer::Unknown => Refusal::Unknown.number(),
-        ReaderAnswer::Refused(refusal) => refusal.number(),
-        ReaderAnswer::Underway => 0,
-        ReaderAnswer::Found(_) => 0,
-        ReaderAnswer::Word(_) => 0,
-        ReaderAnswer::LastWord(_) => 0,
+        WholeAnswer::Ended(ending) => line_end(ended(named, out, ending), out),
+        WholeAnswer::Refused(refusal) => line_end(refused(named, out, refusal), out),
     }
 }
 

@@ -7,8 +7,8 @@ use mathlib.Core.List.{List}
 use native.Mathlib.Omega.{arith}
 use lib.Bits.{bitAnd, and-le-l, xor-lt}
 use lib.Dec.{eqb}
-use Rattle.refusal.specs.Judging.{both}
-use Rattle.refusal.proofs.Laws.{both-left, both-right}
+use Rattle.conditions.specs.Conditions.{both}
+use Rattle.conditions.proofs.ConditionLaws.{both-left, both-right}
 use Rattle.hash.specs.Position.{positionOf}
 use Rattle.slot_words.specs.Word.{wordOf}
 use Rattle.record.specs.declared.Record.{Record}
@@ -22,9 +22,10 @@ use Rattle.record.specs.declared.ChangeStage.the-variants.{Searching, Found as 
 use Rattle.record.specs.declared.CommandAnswer.{CommandAnswer}
 use Rattle.record.specs.declared.CommandAnswer.the-variants.{Value, Unknown as CommandAnswer·Unknown}
 use Rattle.record.specs.declared.WriterWork.the-variants.{Changing}
-use Rattle.record.specs.Parts.{withStation}
-use Rattle.work_ranges.specs.WorkRanges.{validPoint, alterationInRange, changeStageInRange, changeInRange}
-use Rattle.answers.specs.Answers.{Answer, changed, endedWith, storedAnswer}
+use Rattle.record.specs.Parts.{withStation, withStations}
+use Rattle.slot_words.specs.Points.{validPoint}
+use Rattle.work_ranges.specs.WorkRanges.{alterationInRange, changeStageInRange, changeInRange}
+use Rattle.answers.specs.Answers.{changed, endedWith, storedAnswer}
 use Rattle.plain_list.specs.PlainList.{Rows, absent, entryOf, withValue, Told, tells, changeEntry, changeRow}
 use Rattle.plain_list.proofs.RowLaws.{Steady, steady-same, steady-value}
 use Rattle.plain_list.proofs.Agreement.{valid-low, Agrees, Tight, tight-value}
@@ -36,11 +37,11 @@ use Rattle.search.specs.declared.SearchAnswer.the-variants.{Found as SearchAnsw
 use Rattle.search.specs.Access.{wordRead}
 use Rattle.search.specs.Search.{searchAccess, searchAdvance}
 use Rattle.search.proofs.TrailLaws.{Knows, search-knows}
-use Rattle.moves.specs.declared.memory.WriterAccess.{WriterAccess}
-use Rattle.moves.specs.declared.memory.WriterAccess.the-variants.{Read}
-use Rattle.moves.specs.Memory.{storeWord, accessRead, slotsAfter, storesSlot}
-use Rattle.moves.specs.Moves.{isIdle, goesOn, ends, updated}
-use Rattle.moves.proofs.StepAgreement.{Standing, standing, ChangeOK, FlipFits, WorkOK, begun, isCommanded, isWriterEnd, no-command, command-ends, StepOK, goes-on, ends-fed}
+use Rattle.effects.specs.declared.memory.WriterAccess.{WriterAccess}
+use Rattle.effects.specs.declared.memory.WriterAccess.the-variants.{Read}
+use Rattle.effects.specs.Memory.{storeWord, accessRead, slotsAfter}
+use Rattle.effects.specs.Effects.{goesOn, ends, updated}
+use Rattle.effects.proofs.StepAgreement.{Standing, standing, ChangeOK, FlipFits, WorkOK, begun, isCommanded, no-command, command-ends, StepOK, goes-on, ends-fed}
 use Rattle.change.specs.Change.{actionMasks, masksOf, newValue, changeStageAccess, changeAccess, alterationEnds, commandEnds, changeAt, changeAnswered, changeSearched, changeStores, changeStageAdvance, changeAdvance}
 
 -- what the plain list says to this change
@@ -77,38 +78,38 @@ module _ (panel : Record) (slots : List ℕ) (rows : Rows) (change : Change) (ag
   q = change .point
 
   -- the end of a change, which stores nothing but a station's last command in the record
-  ending : (access : WriterAccess) (alteration : Alteration) (stored : CommandAnswer) (answer : Answer) (told : Told) → change .alteration ≡ alteration → storedAnswer stored ≡ answer → isWriterEnd answer ≡ true → answer ≡ told .answer → Steady rows (told .rows) → Agrees m k (panel .reach) (panel .counts) (slotsAfter slots access) (told .rows) → Tight m k (panel .reach) (told .rows) → StepOK panel slots access (ends (alterationEnds alteration q stored) answer) rows told (Changing change)
-  unfolding alterationEnds ends updated withStation
-  ending access (Given masks) stored answer told is same h e steady after tight =
-      ends-fed refl refl h e steady (no-command (ap isCommanded is) refl) (record { agrees = after; work = tight })
-  ending access (Commanded command) stored answer told is same h e steady after tight =
-      ends-fed refl refl h e steady (command-ends command stored is same refl) (record { agrees = after; work = tight })
+  at-end : (access : WriterAccess) (alteration : Alteration) (stored : CommandAnswer) (told : Told) → change .alteration ≡ alteration → storedAnswer stored ≡ told .answer → Steady rows (told .rows) → Agrees m k (panel .reach) (panel .counts) (slotsAfter slots access) (told .rows) → Tight m k (panel .reach) (told .rows) → StepOK panel slots access (ends (alterationEnds alteration q stored) (told .answer)) rows told (Changing change)
+  unfolding alterationEnds ends updated withStation withStations
+  at-end access (Given masks) stored told is same steady after tight =
+      ends-fed refl refl refl steady (no-command (ap isCommanded is) refl) (record { agrees = after; work = tight })
+  at-end access (Commanded command) stored told is same steady after tight =
+      ends-fed refl refl refl steady (command-ends command stored is same refl) (record { agrees = after; work = tight })
 
   -- a step that reads, and goes on at this stage
   on-stage : (read : ReadAccess) (stage : ChangeStage) → ChangeOK m k (panel .reach) slots rows q stage → StepOK panel slots (Read read) (changeAt change stage) rows (changeTold change rows) (Changing change)
-  unfolding storesSlot slotsAfter changeAt goesOn isIdle updated begun
+  unfolding slotsAfter changeAt goesOn updated begun
   on-stage read stage h = goes-on refl refl refl refl refl refl refl (record { agrees = agrees; work = (h, flips) })
 
   searched : (read : ReadAccess) (after : Searched) → Tight m k (panel .reach) rows → Knows (entryOf q rows ≡ absent) m k q rows after → StepOK panel slots (Read read) (changeSearched change after) rows (changeTold change rows) (Changing change)
-  unfolding changeSearched changeAnswered commandEnds changeRow changeEntry isWriterEnd storedAnswer slotsAfter
+  unfolding changeSearched changeAnswered commandEnds changeRow changeEntry storedAnswer slotsAfter
   searched read (Going search) tight h = on-stage read (Searching search) (h, tight)
   searched read (Answered (SearchAnswer·Found place)) tight h = on-stage read (ChangeStage·Found place) (standing m k q rows place h, tight)
   searched read (Answered Unknown) tight h =
       let told : changeTold change rows ≡ tells rows (endedWith 7) = rw h in
       subst (λ t. StepOK panel slots (Read read) (ends (alterationEnds (change .alteration) q CommandAnswer·Unknown) (endedWith 7)) rows t (Changing change)) (sym told)
-      (ending (Read read) (change .alteration) CommandAnswer·Unknown (endedWith 7) (tells rows (endedWith 7)) refl refl refl refl (steady-same rows) agrees tight)
+      (at-end (Read read) (change .alteration) CommandAnswer·Unknown (tells rows (endedWith 7)) refl refl (steady-same rows) agrees tight)
 
   abbrev new : Place → ℕ
   new place = newValue (change .alteration) (place .value)
 
   -- the row's word is stored anew
   stores : (place : Place) → Standing m k q rows place → Tight m k (panel .reach) rows → StepOK panel slots (storeWord m q (place .index) (wordOf q (new place))) (changeStores change place) rows (changeTold change rows) (Changing change)
-  unfolding changeStores commandEnds storeWord slotsAfter changeRow changeEntry newValue isWriterEnd storedAnswer
+  unfolding changeStores commandEnds storeWord slotsAfter changeRow changeEntry newValue storedAnswer
   stores place stands tight =
       let told : changeTold change rows ≡ tells (withValue q (new place) rows) (changed (new place)) = rw (stands .found) in
       let fits = new-fits (change .alteration) (place .value) (flip-fits m k (panel .reach) slots rows (change .alteration) flips) (agrees .held q (place .value) (positionOf m q (place .index)) (stands .found) .fits) in
       subst (λ t. StepOK panel slots (storeWord m q (place .index) (wordOf q (new place))) (ends (alterationEnds (change .alteration) q (Value (new place))) (changed (new place))) rows t (Changing change)) (sym told)
-      (ending (storeWord m q (place .index) (wordOf q (new place))) (change .alteration) (Value (new place)) (changed (new place)) (tells (withValue q (new place) rows) (changed (new place))) refl refl refl refl (steady-value q (new place) rows)
+      (at-end (storeWord m q (place .index) (wordOf q (new place))) (change .alteration) (Value (new place)) (tells (withValue q (new place) rows) (changed (new place))) refl refl (steady-value q (new place) rows)
       (agrees-stored m k (panel .reach) (panel .counts) slots rows agrees q (place .value) (positionOf m q (place .index)) (new place) (stands .found) fits)
       (tight-value m k (panel .reach) q (new place) rows tight))
 

@@ -6,8 +6,8 @@ use mathlib.Core.Bool.{Bool, true, false}
 use native.Mathlib.Omega.{arith}
 use borrow.Author.Tests.{le-leb}
 use lib.Dec.{leb, eqb}
-use Rattle.refusal.specs.Judging.{both, either, within}
-use Rattle.refusal.proofs.Laws.{both-left, both-right, both-true, within-high}
+use Rattle.conditions.specs.Conditions.{both, either, within}
+use Rattle.conditions.proofs.ConditionLaws.{both-left, both-right, both-true, within-high}
 use Rattle.hash.proofs.Laws.{position-below}
 use Rattle.record.specs.declared.Alteration.{Alteration}
 use Rattle.record.specs.declared.Alteration.the-variants.{Given, Commanded}
@@ -17,17 +17,17 @@ use Rattle.record.specs.declared.ChangeStage.the-variants.{Searching, Found as 
 use Rattle.record.specs.declared.CommandAnswer.{CommandAnswer}
 use Rattle.record.specs.declared.CommandAnswer.the-variants.{Value, Unknown as CommandAnswer·Unknown}
 use Rattle.record.specs.declared.WriterWork.the-variants.{Changing}
-use Rattle.work_ranges.specs.WorkRanges.{validPoint, alterationInRange, commandInRange, changeStageInRange, changeInRange, writerInRange}
+use Rattle.slot_words.specs.Points.{validPoint}
+use Rattle.work_ranges.specs.WorkRanges.{alterationInRange, commandInRange, changeStageInRange, changeInRange, writerInRange}
 use Rattle.record_ranges.specs.Ranges.{stationInRange}
 use Rattle.search.specs.declared.Searched.{Searched}
 use Rattle.search.specs.declared.Searched.the-variants.{Going, Answered}
 use Rattle.search.specs.declared.SearchAnswer.the-variants.{Found as SearchAnswer·Found, Unknown}
-use Rattle.answers.specs.Answers.{isUnderway}
 use Rattle.search.specs.Search.{searchAdvance}
 use Rattle.search.proofs.SearchLaws.{search-inside, searchedLeft, searchedInRange, answerInRange, OneStep, search-step}
-use Rattle.moves.specs.Memory.{storeWord}
-use Rattle.moves.specs.Moves.{isIdle, goesOn, ends}
-use Rattle.moves.proofs.MoveLaws.{slotNamed, updateInRange, reachAfter, reachStored, changeLeft, writerLeft, OneMove}
+use Rattle.effects.specs.Memory.{storeWord}
+use Rattle.effects.specs.Effects.{goesOn, ends}
+use Rattle.effects.proofs.EffectLaws.{slotNamed, updateInRange, reachAfter, reachStored, changeLeft, writerLeft, OneEffect}
 use Rattle.change.specs.Change.{newValue, changeStageAccess, changeAccess, alterationEnds, commandEnds, changeAt, changeAnswered, changeSearched, changeStores, changeStageAdvance, changeAdvance}
 
 either-right : (a b : Bool) → b ≡ true → either a b ≡ true
@@ -49,8 +49,8 @@ stored-fits k point (Commanded command) answer valid h =
 
 module _ (k reach : ℕ) (change : Change) (valid : validPoint (change .point) ≡ true) (alters : alterationInRange (change .alteration) ≡ true) where
   -- the change goes on at a stage in range with as many steps left
-  at-stage : (left : ℕ) (stage : ChangeStage) → changeStageInRange k stage ≡ true → changeLeft k stage + 1 ≤ left → OneMove k reach left (changeAt change stage)
-  unfolding changeAt goesOn writerInRange changeInRange updateInRange reachAfter writerLeft isUnderway isIdle
+  at-stage : (left : ℕ) (stage : ChangeStage) → changeStageInRange k stage ≡ true → changeLeft k stage + 1 ≤ left → OneEffect k reach left (changeAt change stage)
+  unfolding changeAt goesOn writerInRange changeInRange updateInRange reachAfter writerLeft
   at-stage left stage h less =
       record {
         work-fits = both-true (validPoint (change .point)) (both (alterationInRange (change .alteration)) (changeStageInRange k stage)) valid (both-true (alterationInRange (change .alteration)) (changeStageInRange k stage) alters h);
@@ -59,22 +59,22 @@ module _ (k reach : ℕ) (change : Change) (valid : validPoint (change .point) �
         less = less;
       }
 
-  searched : (left : ℕ) (after : Searched) → OneStep k left after → OneMove k reach (left + 1) (changeSearched change after)
-  unfolding changeSearched changeAnswered commandEnds ends changeStageInRange changeLeft searchedInRange searchedLeft answerInRange writerInRange writerLeft isUnderway isIdle
+  searched : (left : ℕ) (after : Searched) → OneStep k left after → OneEffect k reach (left + 1) (changeSearched change after)
+  unfolding changeSearched changeAnswered commandEnds ends changeStageInRange changeLeft searchedInRange searchedLeft answerInRange writerInRange writerLeft
   searched left (Going search) s = at-stage _ (Searching search) (s .fits) (omega (arith, s .less))
   searched left (Answered (SearchAnswer·Found place)) s = at-stage _ (ChangeStage·Found place) (s .fits) (omega (arith, s .less))
   searched left (Answered Unknown) s =
       record { work-fits = refl; update-fits = stored-fits k (change .point) (change .alteration) _ valid alters; ended = refl; less = omega arith }
 
-  at-any-stage : (word : ℕ) (stage : ChangeStage) → reach ≤ k → changeStageInRange k stage ≡ true → OneMove k reach (changeLeft k stage) (changeStageAdvance reach change stage word)
-  unfolding changeStageAdvance changeStageInRange changeLeft changeStores commandEnds ends writerInRange writerLeft isUnderway isIdle
+  at-any-stage : (word : ℕ) (stage : ChangeStage) → reach ≤ k → changeStageInRange k stage ≡ true → OneEffect k reach (changeLeft k stage) (changeStageAdvance reach change stage word)
+  unfolding changeStageAdvance changeStageInRange changeLeft changeStores commandEnds ends writerInRange writerLeft
   at-any-stage word (Searching search) r h = searched _ _ (search-step k reach (change .point) search word r h)
   at-any-stage word (ChangeStage·Found place) r h =
       record { work-fits = refl; update-fits = stored-fits k (change .point) (change .alteration) _ valid alters; ended = refl; less = omega arith }
 
-pub change-moves : (k reach : ℕ) (change : Change) (word : ℕ) → reach ≤ k → changeInRange k change ≡ true → OneMove k reach (writerLeft k reach (Changing change)) (changeAdvance reach change word)
-unfolding changeAdvance changeInRange writerLeft isUnderway isIdle
-change-moves k reach change word r h =
+pub change-effect : (k reach : ℕ) (change : Change) (word : ℕ) → reach ≤ k → changeInRange k change ≡ true → OneEffect k reach (writerLeft k reach (Changing change)) (changeAdvance reach change word)
+unfolding changeAdvance changeInRange writerLeft
+change-effect k reach change word r h =
     let valid = both-left (validPoint (change .point)) (both (alterationInRange (change .alteration)) (changeStageInRange k (change .stage))) h in
     let rest = both-right (validPoint (change .point)) (both (alterationInRange (change .alteration)) (changeStageInRange k (change .stage))) h in
     at-any-stage k reach change valid (both-left (alterationInRange (change .alteration)) (changeStageInRange k (change .stage)) rest) word (change .stage) r

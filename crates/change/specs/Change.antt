@@ -20,12 +20,12 @@ use Rattle.search.specs.declared.SearchAnswer.the-variants.{Found as SearchAnsw
 use Rattle.answers.specs.Answers.{changed, endedWith}
 use Rattle.slot_words.specs.Word.{wordOf}
 use Rattle.search.specs.Search.{searchAccess, searchAdvance}
-use Rattle.moves.specs.declared.memory.WriterAccess.{WriterAccess}
-use Rattle.moves.specs.declared.memory.WriterAccess.the-variants.{Read}
-use Rattle.moves.specs.declared.update.Update.{Update}
-use Rattle.moves.specs.declared.update.Update.the-variants.{Nothing, Answered as Update·Answered}
-use Rattle.moves.specs.Memory.{storeWord}
-use Rattle.moves.specs.Moves.{WriterMove, goesOn, ends}
+use Rattle.effects.specs.declared.memory.WriterAccess.{WriterAccess}
+use Rattle.effects.specs.declared.memory.WriterAccess.the-variants.{Read}
+use Rattle.effects.specs.declared.update.Update.{Update}
+use Rattle.effects.specs.declared.update.Update.the-variants.{Nothing, Answered as Update·Answered}
+use Rattle.effects.specs.Memory.{storeWord}
+use Rattle.effects.specs.Effects.{WriterEffect, goesOn, ends}
 
 -- "0 enable (clear bit 0), 1 disable (set it), 2 toggle"
 unfoldable pub actionMasks : ℕ → Masks
@@ -67,30 +67,30 @@ unfoldable pub commandEnds : Change → CommandAnswer → Update
 commandEnds change answer = alterationEnds (change .alteration) (change .point) answer
 
 -- the change goes on at this stage
-unfoldable pub changeAt : Change → ChangeStage → WriterMove
+unfoldable pub changeAt : Change → ChangeStage → WriterEffect
 changeAt change stage = goesOn (Changing (record { point = change .point; alteration = change .alteration; stage = stage }))
 
 -- "found, store"; "else 7"
-unfoldable pub changeAnswered : Change → SearchAnswer → WriterMove
+unfoldable pub changeAnswered : Change → SearchAnswer → WriterEffect
 changeAnswered change (SearchAnswer·Found place) = changeAt change (ChangeStage·Found place)
 changeAnswered change SearchAnswer·Unknown = ends (commandEnds change CommandAnswer·Unknown) (endedWith 7)
 
 -- "search"
-unfoldable pub changeSearched : Change → Searched → WriterMove
+unfoldable pub changeSearched : Change → Searched → WriterEffect
 changeSearched change (Going search) = changeAt change (Searching search)
 changeSearched change (Searched·Answered answer) = changeAnswered change answer
 
 -- the new word is stored; "a change the new value"
-unfoldable pub changeStores : Change → Place → WriterMove
+unfoldable pub changeStores : Change → Place → WriterEffect
 changeStores change place =
     ends (commandEnds change (Value (newValue (change .alteration) (place .value))))
     (changed (newValue (change .alteration) (place .value)))
 
 -- part 3, by the stage
-unfoldable pub changeStageAdvance : ℕ → Change → ChangeStage → ℕ → WriterMove
+unfoldable pub changeStageAdvance : ℕ → Change → ChangeStage → ℕ → WriterEffect
 changeStageAdvance reach change (Searching search) word = changeSearched change (searchAdvance reach (change .point) search word)
 changeStageAdvance reach change (ChangeStage·Found place) word = changeStores change place
 
 -- part 3: what follows from the reach, or from the word read or stored
-unfoldable pub changeAdvance : ℕ → Change → ℕ → WriterMove
+unfoldable pub changeAdvance : ℕ → Change → ℕ → WriterEffect
 changeAdvance reach change word = changeStageAdvance reach change (change .stage) word

@@ -1,16 +1,16 @@
 // A change's step: search; found, store (value AND keep) XOR flip. A command's change stores the command
 // and its answer in the step in which it ends.
 ghost use mathlib.Core.Path.{_≡_};
-ghost use Rattle.moves.specs.Moves.{paperMoved};
+ghost use Rattle.effects.specs.Effects.{paperEffect};
 ghost use Rattle.change.specs.Change.{actionMasks, masksOf, newValue, changeAccess, commandEnds, changeAt, changeSearched, changeAnswered, changeStores, changeAdvance};
-use answers::WriterAnswer;
-use moves::memory::WriterAccess;
-use moves::memory::store_word;
-use moves::update::LastCommand;
-use moves::update::Moved;
-use moves::update::Update;
-use moves::update::ended;
-use moves::update::underway;
+use answers::Ending;
+use effects::memory::WriterAccess;
+use effects::memory::store_word;
+use effects::update::Effect;
+use effects::update::LastCommand;
+use effects::update::Update;
+use effects::update::ended;
+use effects::update::underway;
 use record::Alteration;
 use record::Change;
 use record::ChangeStage;
@@ -78,8 +78,8 @@ pub fn change_access(change: Change, m: u32) -> WriterAccess
 }
 
 // Part 3: what follows from the reach, or from the word read or stored.
-pub fn change_advance(change: Change, reach: u32, word: u64) -> Moved
-    ensures { λ r. ⌜ paperMoved r ≡ changeAdvance reach change word ⌝ }
+pub fn change_advance(change: Change, reach: u32, word: u64) -> Effect
+    ensures { λ r. ⌜ paperEffect r ≡ changeAdvance reach change word ⌝ }
 {
     let stage = change.stage;
     match stage {
@@ -91,8 +91,8 @@ pub fn change_advance(change: Change, reach: u32, word: u64) -> Moved
 }
 
 // The change goes on at this stage.
-fn change_at(change: Change, stage: ChangeStage) -> Moved
-    ensures { λ r. ⌜ paperMoved r ≡ changeAt change stage ⌝ }
+fn change_at(change: Change, stage: ChangeStage) -> Effect
+    ensures { λ r. ⌜ paperEffect r ≡ changeAt change stage ⌝ }
 {
     let alteration = change.alteration;
     underway(WriterWork::Changing(Change {
@@ -102,8 +102,8 @@ fn change_at(change: Change, stage: ChangeStage) -> Moved
     }))
 }
 
-fn change_searched(change: Change, searched: Searched) -> Moved
-    ensures { λ r. ⌜ paperMoved r ≡ changeSearched change searched ⌝ }
+fn change_searched(change: Change, searched: Searched) -> Effect
+    ensures { λ r. ⌜ paperEffect r ≡ changeSearched change searched ⌝ }
 {
     match searched {
         Searched::Going(search) => change_at(change, ChangeStage::Searching(search)),
@@ -112,27 +112,27 @@ fn change_searched(change: Change, searched: Searched) -> Moved
 }
 
 // What the search's answer leads to.
-pub fn change_answered(change: Change, answer: SearchAnswer) -> Moved
-    ensures { λ r. ⌜ paperMoved r ≡ changeAnswered change answer ⌝ }
+fn change_answered(change: Change, answer: SearchAnswer) -> Effect
+    ensures { λ r. ⌜ paperEffect r ≡ changeAnswered change answer ⌝ }
 {
     let SearchAnswer::Found(place) = answer else {
         return ended(
             command_ends(change, CommandAnswer::Unknown),
-            WriterAnswer::Unknown,
+            Ending::Unknown,
         );
     };
     change_at(change, ChangeStage::Found(place))
 }
 
 // The new word is stored, and the change ends.
-fn change_stores(change: Change, place: Place) -> Moved
-    ensures { λ r. ⌜ paperMoved r ≡ changeStores change place ⌝ }
+fn change_stores(change: Change, place: Place) -> Effect
+    ensures { λ r. ⌜ paperEffect r ≡ changeStores change place ⌝ }
 {
     let alteration = change.alteration;
     let value = new_value(alteration, place.value);
     ended(
         command_ends(change, CommandAnswer::Value(value)),
-        WriterAnswer::Changed(value),
+        Ending::Changed(value),
     )
 }
 

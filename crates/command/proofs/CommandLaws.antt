@@ -9,16 +9,19 @@ use native.Mathlib.Omega.{arith}
 use borrow.Author.Tests.{eqb-true, not-false, ltb-false, le-leb}
 use lib.Dec.{eqb, ltb}
 use lib.ListN.{length, getD}
-use Rattle.refusal.specs.Judging.{both, outside, refuseIf}
-use Rattle.refusal.proofs.Laws.{not-refused, both-left, both-right, both-true, is-within}
+use Rattle.conditions.specs.Conditions.{both, outside}
+use Rattle.refusal.specs.Judging.{refuseIf}
+use Rattle.refusal.proofs.Laws.{not-refused}
+use Rattle.conditions.proofs.ConditionLaws.{both-left, both-right, both-true, is-within}
 use Rattle.record.specs.declared.Record.{Record}
 use Rattle.record.specs.declared.Station.{Station}
 use Rattle.record.specs.Parts.{withWriter, stationOf}
-use Rattle.work_ranges.specs.WorkRanges.{validPoint, searchInRange, commandInRange, alterationInRange, changeStageInRange, changeInRange, writerInRange}
+use Rattle.slot_words.specs.Points.{validPoint}
+use Rattle.work_ranges.specs.WorkRanges.{searchInRange, commandInRange, alterationInRange, changeStageInRange, changeInRange, writerInRange}
 use Rattle.record_ranges.specs.Ranges.{inRange}
 use Rattle.record_ranges.proofs.Laws.{with-writer-in-range}
 use Rattle.answers.specs.Answers.{started, givenAgain, refused, storedAnswer, Outcome, outcome, unlessRefused}
-use Rattle.moves.specs.Moves.{isIdle}
+use Rattle.record.specs.Idle.{isWriterIdle}
 use Rattle.frame.specs.declared.Fields.{Fields}
 use Rattle.frame.specs.FieldMap.{hasBit, lengthOf, allowed}
 use Rattle.frame.specs.Frames.{fieldsIn, judged, readRefusal}
@@ -94,7 +97,7 @@ frame-not-one bytes =
 pub data Entered (panel : Record) (slots bytes : List ℕ) : Outcome → Type 0 where
   refuses : {n : ℕ} → 2 ≤ n → Entered panel slots bytes (outcome panel slots (refused n))
   repeats : 1 ≤ sentIn bytes .number → sentIn bytes .number ≡ stationOf panel (sentIn bytes .station) .number → sentIn bytes .point ≡ stationOf panel (sentIn bytes .station) .point → sentIn bytes .action ≡ stationOf panel (sentIn bytes .station) .action → Entered panel slots bytes (outcome panel slots (givenAgain (storedAnswer (stationOf panel (sentIn bytes .station) .answer))))
-  starts : isIdle (panel .writer) ≡ true → validPoint (sentIn bytes .point) ≡ true → 1 ≤ sentIn bytes .station → sentIn bytes .station ≤ 32 → sentIn bytes .number ≡ stationOf panel (sentIn bytes .station) .number + 1 → Entered panel slots bytes (outcome (withWriter panel (commandedChange (sentIn bytes))) slots started)
+  starts : isWriterIdle (panel .writer .work) ≡ true → validPoint (sentIn bytes .point) ≡ true → 1 ≤ sentIn bytes .station → sentIn bytes .station ≤ 32 → sentIn bytes .number ≡ stationOf panel (sentIn bytes .station) .number + 1 → Entered panel slots bytes (outcome (withWriter panel (commandedChange (sentIn bytes))) slots started)
 
 -- "A command underway keeps the ranges of its frame"
 change-in-range : (k : ℕ) (sent : Sent) → Valid sent → writerInRange k (commandedChange sent) ≡ true
@@ -121,7 +124,7 @@ module _ (panel : Record) (slots bytes : List ℕ) (fits : inRange (length slots
   refusing : (n : ℕ) → 2 ≤ n → Left (outcome panel slots (refused n))
   refusing n h = (refuses h, fits)
 
-  idle-or-not : Valid sent → sent .number ≡ last .number + 1 → (b : Bool) → isIdle (panel .writer) ≡ b → Left (unlessRefused (refuseIf (not b) 4 0) panel slots (outcome (withWriter panel (commandedChange sent)) slots started))
+  idle-or-not : Valid sent → sent .number ≡ last .number + 1 → (b : Bool) → isWriterIdle (panel .writer .work) ≡ b → Left (unlessRefused (refuseIf (not b) 4 0) panel slots (outcome (withWriter panel (commandedChange sent)) slots started))
   unfolding refuseIf unlessRefused
   idle-or-not valid next true e =
       (starts e (valid .point-valid) (valid .station-low) (valid .station-high) next, with-writer-in-range (length slots) panel fits (commandedChange sent) (change-in-range (panel .k) sent valid))
@@ -129,7 +132,7 @@ module _ (panel : Record) (slots bytes : List ℕ) (fits : inRange (length slots
 
   next-or-not : Valid sent → (b : Bool) → eqb (sent .number) (last .number + 1) ≡ b → Left (cond b (changeStarts panel slots sent) (outcome panel slots (refused 11)))
   unfolding changeStarts
-  next-or-not valid true e = idle-or-not valid (eqb-true _ _ e) (isIdle (panel .writer)) refl
+  next-or-not valid true e = idle-or-not valid (eqb-true _ _ e) (isWriterIdle (panel .writer .work)) refl
   next-or-not valid false e = refusing 11 (omega arith)
 
   same-or-not : Valid sent → sent .number ≡ last .number → (b : Bool) → both (eqb (sent .point) (last .point)) (eqb (sent .action) (last .action)) ≡ b → Left (cond b (outcome panel slots (givenAgain (storedAnswer (last .answer)))) (outcome panel slots (refused 12)))

@@ -4,7 +4,8 @@ use mathlib.Core.Bool.{cond, not}
 use mathlib.Core.List.{List}
 use lib.Dec.{eqb}
 use lib.ListN.{length, getD}
-use Rattle.refusal.specs.Judging.{both, refuseIf}
+use Rattle.conditions.specs.Conditions.{both}
+use Rattle.refusal.specs.Judging.{refuseIf}
 use Rattle.record.specs.declared.Record.{Record}
 use Rattle.record.specs.declared.Station.{Station}
 use Rattle.record.specs.declared.Search.the-variants.{Unread}
@@ -15,7 +16,7 @@ use Rattle.record.specs.declared.WriterWork.the-variants.{Changing}
 use Rattle.record.specs.Parts.{withWriter, stationOf}
 use Rattle.record_ranges.specs.Ranges.{inRange}
 use Rattle.answers.specs.Answers.{started, givenAgain, refused, storedAnswer, Outcome, outcome, unlessRefused}
-use Rattle.moves.specs.Moves.{isIdle}
+use Rattle.record.specs.Idle.{isWriterIdle}
 use Rattle.frame.specs.declared.Fields.{Fields}
 use Rattle.frame.specs.Frames.{fieldsIn, readRefusal}
 use Rattle.command.specs.declared.Sent.{Sent}
@@ -50,7 +51,7 @@ commandedChange sent =
 -- "the change starts", ".., 4"
 unfoldable pub changeStarts : Record → List ℕ → Sent → Outcome
 changeStarts panel slots sent =
-    unlessRefused (refuseIf (not (isIdle (panel .writer))) 4 0) panel slots (outcome (withWriter panel (commandedChange sent)) slots started)
+    unlessRefused (refuseIf (not (isWriterIdle (panel .writer .work))) 4 0) panel slots (outcome (withWriter panel (commandedChange sent)) slots started)
 
 -- "Number equal to the last, point and action the same: the stored answer is given again and nothing is altered. Number equal, point or action different: 12"
 unfoldable pub numberEqual : Record → List ℕ → Sent → Station → Outcome

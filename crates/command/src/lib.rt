@@ -9,6 +9,8 @@ ghost use Rattle.answers.specs.Answers.{refused, paperEntry, outcome};
 ghost use Rattle.command.specs.Command.{sentOf, commandedChange, changeStarts, numberEqual, numberOther, inTurn, startCommand};
 ghost use Rattle.command.specs.CommandFrames.{paperReceived, receivedFrom, answerReceived};
 use answers::EntryAnswer;
+use answers::EntryOutcome;
+use conditions::both_hold;
 use frame::Fields;
 use frame::ReadAnswer;
 use record::Alteration;
@@ -19,12 +21,11 @@ use record::Record;
 use record::Search;
 use record::Station;
 use record::WriterWork;
+use record::idle::is_writer_idle;
 use record::parts::station_of;
 use record::parts::with_writer;
 use record_ranges::is_in_range;
 use refusal::Refusal;
-use refusal::tests::both_hold;
-use writer::has_no_work;
 
 // Document 01's command: station, number, point and action.
 pub struct Sent {
@@ -32,12 +33,6 @@ pub struct Sent {
     pub number: u32,
     pub point: u32,
     pub action: u32,
-}
-
-// What the command entry leaves: the record, and the answer.
-pub struct EntryOutcome {
-    pub panel: Record,
-    pub answer: EntryAnswer,
 }
 
 // What the bytes of a frame were taken for.
@@ -108,8 +103,9 @@ fn refuse(panel: Record, refusal: Refusal) -> EntryOutcome
 fn change_starts(panel: Record, sent: Sent) -> EntryOutcome
     ensures { λ r. ⌜ ((slots : List ℕ) → outcome (r .panel) slots (paperEntry (r .answer)) ≡ changeStarts panel slots sent) ⌝ }
 {
-    let work = panel.writer;
-    if !has_no_work(work) {
+    let writer = panel.writer;
+    let work = writer.work;
+    if !is_writer_idle(work) {
         return refuse(panel, Refusal::Engaged);
     }
     EntryOutcome {

@@ -9,11 +9,11 @@ use borrow.Author.Tests.{eq-eqb, leb-true, leb-false, ltb-false}
 use lib.Dec.{eqb, leb, ltb}
 use lib.ListN.{length, getD, drop, drop-of-length-le}
 use lib.Seq.{drop-cons}
-use Rattle.refusal.specs.Judging.{both, either}
-use Rattle.refusal.proofs.Laws.{both-left, within-high}
-use Rattle.work_ranges.specs.WorkRanges.{validPoint}
+use Rattle.conditions.specs.Conditions.{both, either}
+use Rattle.conditions.proofs.ConditionLaws.{both-left, within-high}
+use Rattle.slot_words.specs.Points.{validPoint, disabled}
 use Rattle.slot_words.specs.Word.{pointOf, valueOf}
-use Rattle.disabled_points.specs.Disabled.{disabled, holdsDisabled, disabledPoints, oneOf, lowest, lowerOf}
+use Rattle.disabled_points.specs.Disabled.{holdsDisabled, disabledPoints, oneOf, lowest, lowerOf}
 
 module _ (l : List ℕ) (i : ℕ) where
   pub points-more : i < length l → holdsDisabled (getD l i 0) ≡ true → disabledPoints (drop i l) ≡ pointOf (getD l i 0) ∷ disabledPoints (drop (i + 1) l)

@@ -1,20 +1,16 @@
 -- Document 01, "Steps": the two answers that "are taken from the slots as they are at any moment".
-use Prim.Native.Nat.{ℕ, min, _%_}
+use Prim.Native.Nat.{ℕ, min}
 use mathlib.Core.Path.{_≡_}
 use mathlib.Core.Bool.{Bool, true, false, cond}
 use mathlib.Core.List.{List, [], _∷_}
 use lib.Dec.{eqb}
 use lib.ListN.{length}
-use Rattle.refusal.specs.Judging.{both, either}
+use Rattle.conditions.specs.Conditions.{both, either}
 use Rattle.record.specs.declared.Record.{Record}
-use Rattle.work_ranges.specs.WorkRanges.{validPoint}
+use Rattle.slot_words.specs.Points.{validPoint, disabled}
 use Rattle.record_ranges.specs.Ranges.{inRange}
 use Rattle.answers.specs.Answers.{Answer, gives, refused}
 use Rattle.slot_words.specs.Word.{pointOf, valueOf}
-
--- "A point is *disabled* if bit 0 is set": by its value
-unfoldable pub disabled : ℕ → Bool
-disabled value = eqb (value % 2) 1
 
 -- a slot holds "a valid point that is disabled"
 unfoldable pub holdsDisabled : ℕ → Bool

@@ -2,22 +2,17 @@
 ghost use mathlib.Core.Path.{_≡_};
 ghost use lib.ListN.{length};
 ghost use Rattle.answers.specs.Answers.{paperTotal, paperDisplay};
-ghost use Rattle.disabled_points.specs.Disabled.{disabled, holdsDisabled, disabledPoints, lowest, lowerOf, disabledTotal, MayDisplay};
+ghost use Rattle.disabled_points.specs.Disabled.{holdsDisabled, disabledPoints, lowest, lowerOf, disabledTotal, MayDisplay};
 use answers::DisplayAnswer;
 use answers::TotalAnswer;
+use conditions::both_hold;
 use record::Record;
 use record_ranges::is_in_range;
 use refusal::Refusal;
-use refusal::tests::both_hold;
+use slot_words::points::is_disabled;
+use slot_words::points::is_valid_point;
 use slot_words::word::point_of;
 use slot_words::word::value_of;
-use work_ranges::is_valid_point;
-
-fn is_disabled(value: u32) -> bool
-    ensures { λ r. ⌜ r ≡ disabled value ⌝ }
-{
-    value % 2 == 1
-}
 
 // The slot holds a valid point that is disabled.
 fn holds_disabled(word: u64) -> bool

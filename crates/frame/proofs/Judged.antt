@@ -6,7 +6,8 @@ use mathlib.Core.Bool.{false≢true, Bool, true, false, cond}
 use native.Mathlib.Omega.{arith}
 use borrow.Author.Tests.{ltb-false}
 use lib.Dec.{ltb}
-use Rattle.refusal.specs.Judging.{both, outside, refuseIf}
+use Rattle.conditions.specs.Conditions.{both, outside}
+use Rattle.refusal.specs.Judging.{refuseIf}
 use Rattle.refusal.proofs.Laws.{not-refused}
 use Rattle.frame.specs.declared.Fields.{Fields}
 use Rattle.frame.specs.FieldMap.{hasBit}

@@ -10,7 +10,8 @@ use borrow.Author.Tests.{eqb-true, ne-eqb}
 use lib.Dec.{eqb}
 use lib.ListN.{length, getD, set, drop, length-append}
 use lib.Seq.{sets, sets-eq}
-use Rattle.refusal.specs.Judging.{both, outside, refuseIf}
+use Rattle.conditions.specs.Conditions.{both, outside}
+use Rattle.refusal.specs.Judging.{refuseIf}
 use Rattle.frame.specs.declared.Kind.{Kind}
 use Rattle.frame.specs.declared.Kind.the-variants.{Query, Command, Value, CommandAnswer, QueryRefused, CommandRefused}
 use Rattle.frame.specs.declared.Fields.{Fields}

@@ -4,7 +4,8 @@ use mathlib.Core.Bool.{Bool, cond, not}
 use mathlib.Core.List.{List, [], _∷_, _++_}
 use lib.Dec.{eqb, ltb}
 use lib.ListN.{length, getD, drop}
-use Rattle.refusal.specs.Judging.{both, outside, refuseIf, orElse}
+use Rattle.conditions.specs.Conditions.{both, outside}
+use Rattle.refusal.specs.Judging.{refuseIf, orElse}
 use Rattle.frame.specs.declared.Fields.{Fields}
 use Rattle.frame.specs.declared.Reading.{Reading}
 use Rattle.frame.specs.FieldMap.{width, hasBit, start, lengthOf, bigEndian, bytesOf, allowed}

@@ -1,16 +1,16 @@
 // The ranges of a frame's fields, judged in bit order.
 ghost use mathlib.Core.Path.{_≡_};
 ghost use Prim.Native.Nat.{ℕ};
-ghost use Rattle.refusal.specs.Judging.{both, outside};
+ghost use Rattle.conditions.specs.Conditions.{both, outside};
 ghost use Rattle.refusal.specs.Refusals.{paperJudged};
 ghost use Rattle.frame.specs.Frames.{judged};
 ghost use Rattle.frame.specs.Layouts.{present, placesOf};
 use crate::Fields;
 use crate::layout::Layout;
+use conditions::both_hold;
+use conditions::is_outside;
 use refusal::Judged;
 use refusal::Refusal;
-use refusal::tests::both_hold;
-use refusal::tests::is_outside;
 
 // The layout has the field and its number is outside the range.
 fn is_out_of_range(at: u32, low: u32, number: u32, high: u32) -> bool

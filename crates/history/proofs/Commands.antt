@@ -10,7 +10,7 @@ use native.Mathlib.Decide.{ℕ-discrete}
 use borrow.Author.Tests.{eqb-true}
 use lib.Dec.{eqb}
 use lib.ListN.{length}
-use Rattle.refusal.specs.Judging.{both}
+use Rattle.conditions.specs.Conditions.{both}
 use Rattle.record.specs.declared.Station.{Station}
 use Rattle.record.specs.declared.Command.{Command}
 use Rattle.record.specs.declared.CommandAnswer.{CommandAnswer}
@@ -20,9 +20,9 @@ use Rattle.record.specs.declared.WriterWork.{WriterWork}
 use Rattle.record.specs.declared.WriterWork.the-variants.{Idle, Putting, Changing, Removing}
 use Rattle.record.specs.Parts.{unheardStation, numbered, withNumbered}
 use Rattle.record.proofs.Numbered.{replaced-length, replaced-same, replaced-other}
-use Rattle.answers.specs.Answers.{Answer, storedAnswer}
+use Rattle.answers.specs.Answers.{Ending, storedAnswer}
 use Rattle.plain_list.specs.PlainList.{Each, here, there}
-use Rattle.moves.proofs.StepAgreement.{begun, fedBy, isCommanded, isCommand}
+use Rattle.effects.proofs.StepAgreement.{begun, fedBy, isCommanded, isCommand}
 use Rattle.command.specs.declared.Sent.{Sent}
 use Rattle.history.specs.World.{Given}
 use Rattle.history.specs.Claim.{Gave, times, sents}
@@ -62,12 +62,14 @@ no-command-of (Changing change) e = not-commanded (change .point) (change .alter
 no-command-of (Removing removal) e = refl
 
 -- a removal that has fed the plain list is no command's change
+pub fed-not-command : (work : WriterWork) → fedBy work ≡ 1 → isCommand work ≡ false
+fed-not-command Idle e = refl
+fed-not-command (Putting put) e = refl
+fed-not-command (Changing change) e = absurd (omega arith)
+fed-not-command (Removing removal) e = refl
+
 pub fed-no-command : (work : WriterWork) → fedBy work ≡ 1 → commandOf work ≡ []
-unfolding commandOf
-fed-no-command Idle e = refl
-fed-no-command (Putting put) e = refl
-fed-no-command (Changing change) e = absurd (omega arith)
-fed-no-command (Removing removal) e = refl
+fed-no-command work fed = no-command-of work (fed-not-command work fed)
 
 -- a station's last command
 abbrev pub lastOf : List Station → ℕ → Station
@@ -137,7 +139,7 @@ once-more stations sent l each above once station number = go (eqb (sent .statio
     go false e b f = omega (arith, once station number)
 
 -- the step that ends a command's change records it
-module _ (stations : List Station) (sent : Sent) (acts : List Sent) (ended : List Given) (ok : CommandsOK stations (sent ∷ []) acts ended) (stored : CommandAnswer) (answer : Answer) (same : storedAnswer stored ≡ answer) where
+module _ (stations : List Station) (sent : Sent) (acts : List Sent) (ended : List Given) (ok : CommandsOK stations (sent ∷ []) acts ended) (stored : CommandAnswer) (answer : Ending) (same : storedAnswer stored ≡ answer) where
   abbrev new : Station
   new = record { number = sent .number; point = sent .point; action = sent .action; answer = stored }
 

@@ -17,17 +17,17 @@ use Rattle.record.specs.declared.WriterWork.{WriterWork}
 use Rattle.record.specs.Parts.{idleReader, unheardStation, freshRecord, workOf, numbered}
 use Rattle.record_ranges.specs.Ranges.{sizesInRange, inRange}
 use Rattle.record_ranges.proofs.Laws.{fresh-in-range}
-use Rattle.refusal.proofs.Laws.{both-true, is-within}
+use Rattle.conditions.proofs.ConditionLaws.{both-true, is-within}
 use Rattle.answers.specs.Answers.{removed, gives, outcome}
-use Rattle.table.specs.FreshPanel.{makeFresh}
+use Rattle.fresh_panel.specs.FreshPanel.{makeFresh}
 use Rattle.slot_words.specs.Taken.{takenSlots}
 use Rattle.plain_list.specs.PlainList.{Rows, entryOf, largestIndex}
 use Rattle.plain_list.proofs.RowLaws.{present≢absent}
 use Rattle.plain_list.proofs.IndexLaws.{countIndex}
 use Rattle.plain_list.proofs.Agreement.{Agrees, shows}
-use Rattle.moves.specs.Moves.{isIdle}
-use Rattle.moves.proofs.MoveLaws.{writerLeft}
-use Rattle.moves.proofs.StepAgreement.{WorkOK, fedBy}
+use Rattle.record.specs.Idle.{isWriterIdle}
+use Rattle.effects.proofs.EffectLaws.{writerLeft}
+use Rattle.effects.proofs.StepAgreement.{WorkOK, fedBy}
 use Rattle.writer.proofs.WriterAgreement.{operationOf}
 use Rattle.history.specs.World.{WriterNotes, World, freshWorld, begunReader}
 use Rattle.history.specs.Claim.{times, sents, stepBound, WorldRight}
@@ -48,10 +48,10 @@ pub record Inv (m k : ℕ) (world : World) : Type 0 where
   pub fits : inRange (length (world .slots)) (world .panel) ≡ true
   pub all-readers : length (world .panel .readers) ≡ 16
   pub agrees : Agrees m k (world .panel .reach) (world .panel .counts) (world .slots) (world .rows)
-  pub work : WorkOK m k (world .panel .reach) (world .slots) (world .rows) (world .panel .writer)
-  pub writer : isIdle (world .panel .writer) ≡ false → WriterOK m k (world .panel .reach) (world .rows) (world .writer) (world .panel .writer)
+  pub work : WorkOK m k (world .panel .reach) (world .slots) (world .rows) (world .panel .writer .work)
+  pub writer : isWriterIdle (world .panel .writer .work) ≡ false → WriterOK m k (world .panel .reach) (world .rows) (world .writer) (world .panel .writer .work)
   pub readers : (n : ℕ) → ReaderOK m k (world .rows) (world .readers n) (workOf (world .panel) n)
-  pub commands : CommandsOK (world .panel .stations) (commandOf (world .panel .writer)) (world .acts) (world .ended)
+  pub commands : CommandsOK (world .panel .stations) (commandOf (world .panel .writer .work)) (world .acts) (world .ended)
 
 -- what the claim says of a world
 pub world-right : (m k : ℕ) (world : World) → Inv m k world → WorldRight m k world
@@ -136,7 +136,7 @@ module _ (m k : ℕ) (m-low : 1 ≤ m) (m-high : m ≤ 4096) (k-low : 1 ≤ k) (
   all-idle n = ap (λ (r : Reader). r .work) (replicated 16 n idleReader)
 
   pub fresh-inv : Inv m k (freshWorld m k)
-  unfolding freshWorld freshRecord isIdle commandOf
+  unfolding freshWorld freshRecord commandOf
   fresh-inv =
       record {
         m-is = refl;

@@ -5,4 +5,3 @@ pub mod ReaderCalls
 pub mod WriterStarts
 pub mod WriterSteps
 pub mod Theorem
-pub mod MarkedValues

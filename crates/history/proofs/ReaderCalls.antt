@@ -8,27 +8,28 @@ use native.Mathlib.Omega.{arith}
 use borrow.Author.Tests.{eqb-true, eqb-false, eq-eqb}
 use lib.Dec.{eqb}
 use lib.ListN.{length, length-set}
-use Rattle.refusal.specs.Judging.{both, either}
+use Rattle.conditions.specs.Conditions.{both, either}
 use Rattle.record.specs.declared.Record.{Record}
 use Rattle.record.specs.declared.Search.the-variants.{Unread}
 use Rattle.record.specs.declared.ReaderWork.{ReaderWork}
 use Rattle.record.specs.declared.ReaderWork.the-variants.{LookingUp, Walking}
-use Rattle.record.specs.Parts.{workOf, withWork}
+use Rattle.record.specs.Parts.{workOf, withWork, withReaders}
 use Rattle.record.proofs.WorkLaws.{work-replaced, others-stay}
 use Rattle.record_ranges.specs.Ranges.{inRange}
 use Rattle.record_ranges.proofs.Laws.{fields, work-in-range, with-work-in-range}
-use Rattle.answers.specs.Answers.{Answer, refused, givenAgain, hasEnded, isStarted, isRefused, Outcome, outcome}
+use Rattle.answers.specs.Answers.{Ending, refused, givenAgain, isRefused, Outcome, outcome}
 use Rattle.plain_list.specs.PlainList.{Rows, Operation, Some}
 use Rattle.plain_list.proofs.RowLaws.{steady-same}
 use Rattle.search.specs.Access.{wordRead}
 use Rattle.search.proofs.SearchLaws.{searchLeft}
-use Rattle.reader_step.specs.Reader.{isIdle, readerAccess, ReaderMove, readerAdvance, moved, readerRuns, stepReader}
+use Rattle.record.specs.Idle.{isReaderIdle}
+use Rattle.reader_step.specs.Reader.{readerAccess, ReaderEffect, readerAdvance, afterStep, readerRuns, stepReader}
 use Rattle.reader_step.proofs.StepCases as step
-use Rattle.table.specs.Starts.{startLookup, startWalk}
-use Rattle.table.proofs.StartCases as start
-use Rattle.table.proofs.ReaderLaws.{advances}
+use Rattle.reader_starts.specs.Starts.{startLookup, startWalk}
+use Rattle.reader_starts.proofs.StartCases as start
+use Rattle.reader_starts.proofs.ReaderLaws.{advances}
 use Rattle.command.specs.declared.Sent.{Sent}
-use Rattle.history.specs.World.{Role, readerStart, readerStep, writerStart, writerStep, ReaderNotes, World, storesNow, endsNow, feedsNow, rowsNow, writerNow, begunReader, steppedReader, witnessed, readerNow, noted}
+use Rattle.history.specs.World.{Role, readerStart, readerStep, writerStart, writerStep, ReaderNotes, World, storesNow, endsNow, endedBy, endedNow, feedsNow, rowsNow, writerNow, begunReader, steppedReader, witnessed, readerNow, noted}
 use Rattle.history.specs.Claim.{Gave, start-made, given-again, start-refused, ReaderRight, reader-refused, writer-refused, Right}
 use Rattle.history.proofs.Readers.{ReaderOK, reader-on, StepRight, reader-right}
 use Rattle.history.proofs.Invariant.{Inv}
@@ -94,20 +95,20 @@ module _ (world : World) (inv : Inv (world .panel .m) (world .panel .k) world) w
 
   -- a refused call
   pub refused-kept : (role : Role) (n : ℕ) → n ≢ 1 → Kept world role (outcome panel slots (refused n))
-  unfolding noted rowsNow feedsNow storesNow endsNow writerNow readerNow isStarted isRefused hasEnded either both
+  unfolding noted rowsNow feedsNow storesNow endsNow endedBy endedNow writerNow readerNow either both
   refused-kept (readerStart reader point) n h = record { inv = waits; right = start-refused n h }
   refused-kept (readerStep reader) n h = record { inv = waits; right = reader-refused n h }
   refused-kept (writerStart operation command) n h = record { inv = waits; right = start-refused n h }
   refused-kept writerStep n h = record { inv = waits; right = writer-refused n h }
 
   -- a stored answer given again
-  pub again-kept : (operation : Operation) (command : List Sent) (answer : Answer) → Some (Gave (world .ended) answer) command → Kept world (writerStart operation command) (outcome panel slots (givenAgain answer))
-  unfolding noted rowsNow feedsNow storesNow endsNow writerNow readerNow isStarted either both
-  again-kept operation command answer h = record { inv = waits; right = given-again answer h }
+  pub again-kept : (operation : Operation) (command : List Sent) (ending : Ending) → Some (Gave (world .ended) ending) command → Kept world (writerStart operation command) (outcome panel slots (givenAgain ending))
+  unfolding noted rowsNow feedsNow storesNow endsNow endedNow writerNow readerNow either both
+  again-kept operation command ending h = record { inv = waits; right = given-again ending h }
 
   -- a reader's work replaced in its place, with what is then noted of it
   replaced-inv : (reader : ℕ) (work : ReaderWork) (mine : ℕ → ReaderNotes) → reader ≤ 15 → inRange (length slots) (withWork panel reader work) ≡ true → ReaderOK m k (world .rows) (mine reader) work → Inv m k (record { panel = withWork panel reader work; slots = slots; rows = world .rows; writer = world .writer; readers = λ (n : ℕ). cond (eqb reader n) (mine n) (witnessed (world .readers n) (world .rows)); acts = world .acts; ended = world .ended })
-  unfolding withWork
+  unfolding withWork withReaders
   replaced-inv reader work mine low fits own =
       record {
         m-is = refl;
@@ -122,7 +123,7 @@ module _ (world : World) (inv : Inv (world .panel .m) (world .panel .k) world) w
       }
 
   start-kept : (reader point : ℕ) (work : ReaderWork) (after : Outcome) → ReaderOK m k (world .rows) (begunReader point) work → start.Began panel slots reader work after → Kept world (readerStart reader point) after
-  unfolding noted rowsNow feedsNow storesNow endsNow writerNow readerNow isStarted either both
+  unfolding noted rowsNow feedsNow storesNow endsNow endedNow writerNow readerNow either both
   start-kept reader point work after own (start.refuses n h) = refused-kept (readerStart reader point) n h
   start-kept reader point work after own (start.begins low fits) =
       record { inv = replaced-inv reader work (λ (n : ℕ). begunReader point) low fits own; right = start-made }
@@ -142,40 +143,40 @@ module _ (world : World) (inv : Inv (world .panel .m) (world .panel .k) world) w
       (start.walk-began panel slots reader (inv .fits))
 
   -- a reader's own step
-  module _ (reader : ℕ) (low : reader ≤ 15) (busy : isIdle (workOf panel reader) ≡ false) where
-    abbrev move : ReaderMove
-    move = readerAdvance m (panel .reach) (workOf panel reader) (wordRead slots (readerAccess m (workOf panel reader)))
+  module _ (reader : ℕ) (low : reader ≤ 15) (busy : isReaderIdle (workOf panel reader) ≡ false) where
+    abbrev effect : ReaderEffect
+    effect = readerAdvance m (panel .reach) (workOf panel reader) (wordRead slots (readerAccess m (workOf panel reader)))
 
-    right-step : StepRight m k (world .rows) (world .readers reader) move
+    right-step : StepRight m k (world .rows) (world .readers reader) effect
     right-step =
         reader-right m k (panel .reach) (panel .counts) slots (world .rows) (inv .agrees) (world .readers reader) (workOf panel reader)
         (work-in-range (length slots) panel reader (inv .fits)) busy (inv .readers reader)
 
-    moved-fits : inRange (length slots) (withWork panel reader (move .work)) ≡ true
-    moved-fits =
-        with-work-in-range (length slots) panel (inv .fits) reader (move .work)
+    effect-fits : inRange (length slots) (withWork panel reader (effect .work)) ≡ true
+    effect-fits =
+        with-work-in-range (length slots) panel (inv .fits) reader (effect .work)
         (advances m k (panel .reach) (workOf panel reader) _ (fields (length slots) panel (inv .fits) .reach-fits) (work-in-range (length slots) panel reader (inv .fits)) .in-range)
 
     -- what is noted of the readers, where the step was carried out
     abbrev noted-by : Bool → ℕ → ReaderNotes
-    noted-by gone n = cond (both (not gone) (eqb reader n)) (steppedReader (world .readers n) (move .answer) (world .rows)) (witnessed (world .readers n) (world .rows))
+    noted-by gone n = cond (both (not gone) (eqb reader n)) (steppedReader (world .readers n) (effect .answer) (world .rows)) (witnessed (world .readers n) (world .rows))
 
-    run-inv : Inv m k (record { panel = withWork panel reader (move .work); slots = slots; rows = world .rows; writer = world .writer; readers = noted-by (isRefused (move .answer)); acts = world .acts; ended = world .ended })
+    run-inv : Inv m k (record { panel = withWork panel reader (effect .work); slots = slots; rows = world .rows; writer = world .writer; readers = noted-by (isRefused (effect .answer)); acts = world .acts; ended = world .ended })
     unfolding both
     run-inv =
-        subst (λ (gone : Bool). Inv m k (record { panel = withWork panel reader (move .work); slots = slots; rows = world .rows; writer = world .writer; readers = noted-by gone; acts = world .acts; ended = world .ended })) (sym (right-step .carried))
-        (replaced-inv reader (move .work) (λ (n : ℕ). steppedReader (world .readers n) (move .answer) (world .rows)) low moved-fits (right-step .ok))
+        subst (λ (gone : Bool). Inv m k (record { panel = withWork panel reader (effect .work); slots = slots; rows = world .rows; writer = world .writer; readers = noted-by gone; acts = world .acts; ended = world .ended })) (sym (right-step .carried))
+        (replaced-inv reader (effect .work) (λ (n : ℕ). steppedReader (world .readers n) (effect .answer) (world .rows)) low effect-fits (right-step .ok))
 
-    own-notes : noted-by (isRefused (move .answer)) reader ≡ steppedReader (world .readers reader) (move .answer) (world .rows)
+    own-notes : noted-by (isRefused (effect .answer)) reader ≡ steppedReader (world .readers reader) (effect .answer) (world .rows)
     unfolding both
     own-notes = rw (right-step .carried, eq-eqb reader reader refl)
 
     pub run-kept : Kept world (readerStep reader) (readerRuns panel slots reader (workOf panel reader))
-    unfolding readerRuns moved noted rowsNow feedsNow storesNow endsNow writerNow readerNow either both
+    unfolding readerRuns afterStep noted rowsNow feedsNow storesNow endsNow endedNow writerNow readerNow either both
     run-kept =
         record {
           inv = run-inv;
-          right = subst (λ (notes : ReaderNotes). ReaderRight m k (world .rows) notes (move .answer)) (sym own-notes) (right-step .right);
+          right = subst (λ (notes : ReaderNotes). ReaderRight m k (world .rows) notes (effect .answer)) (sym own-notes) (right-step .right);
         }
 
   by-step : (reader : ℕ) (after : Outcome) → step.Stepped panel slots reader after → Kept world (readerStep reader) after

@@ -10,14 +10,15 @@ use native.Mathlib.Omega.{arith}
 use borrow.Author.Tests.{eqb-true, eqb-false, eq-eqb, ne-eqb, ltb-true, ltb-false}
 use lib.Dec.{eqb, ltb}
 use lib.ListN.{getD}
-use Rattle.refusal.proofs.Laws.{both-left, both-right}
+use Rattle.conditions.proofs.ConditionLaws.{both-left, both-right}
 use Rattle.slot_words.specs.Word.{pointOf}
 use Rattle.record.specs.declared.Walk.{Walk}
 use Rattle.record.specs.declared.Search.{Search}
 use Rattle.record.specs.declared.Search.the-variants.{Unread, Probing}
 use Rattle.record.specs.declared.ReaderWork.{ReaderWork}
 use Rattle.record.specs.declared.ReaderWork.the-variants.{Idle, LookingUp, Walking}
-use Rattle.work_ranges.specs.WorkRanges.{validPoint, searchInRange, lookupInRange, workInRange}
+use Rattle.slot_words.specs.Points.{validPoint}
+use Rattle.work_ranges.specs.WorkRanges.{searchInRange, lookupInRange, workInRange}
 use Rattle.answers.specs.Answers.{walked, walkedLast, isRefused}
 use Rattle.plain_list.specs.PlainList.{Rows, Entry, absent, present, entryOf, lookupEntry, lookupRow, Each, Some, here, there}
 use Rattle.plain_list.proofs.RowLaws.{Steady, steady-same}
@@ -29,9 +30,10 @@ use Rattle.search.specs.Access.{wordRead}
 use Rattle.search.specs.Search.{searchAccess, searchAdvance}
 use Rattle.search.proofs.SearchLaws.{searchLeft, some-left, searchedLeft, OneStep, search-step}
 use Rattle.search.proofs.TrailLaws.{Trail, Knows, search-knows, trail-after}
-use Rattle.reader_step.specs.Reader.{isIdle, readerAccess, ReaderMove, lookupAnswer, lookupMove, lookupAdvance, walkAdvance, readerAdvance}
+use Rattle.record.specs.Idle.{isReaderIdle}
+use Rattle.reader_step.specs.Reader.{readerAccess, ReaderEffect, lookupEnding, lookupEffect, lookupAdvance, walkAdvance, readerAdvance}
 use Rattle.history.specs.World.{ReaderNotes, wordGiven, steppedReader, witnessed}
-use Rattle.history.specs.Claim.{ReportTrue, reports, ReportedOnce, ReaderRight, lookup-underway, lookup-found, lookup-unknown, walk-underway, walk-ended}
+use Rattle.history.specs.Claim.{ReportTrue, reports, ReportedOnce, ReaderRight, lookup-underway, lookup-ended, walk-underway, walk-ended}
 
 -- the point was on no row at one of these moments
 abbrev pub Missed : ℕ → List Rows → Type 0
@@ -149,10 +151,10 @@ some-map f l (here {x = x} p) = here (f x p)
 some-map f l (there {rest = rest} p) = there (some-map f rest p)
 
 -- what a reader's own step comes to: it is in order, and its answer is right
-pub record StepRight (m k : ℕ) (rows : Rows) (notes : ReaderNotes) (move : ReaderMove) : Type 0 where
-  pub ok : ReaderOK m k rows (steppedReader notes (move .answer) rows) (move .work)
-  pub right : ReaderRight m k rows (steppedReader notes (move .answer) rows) (move .answer)
-  pub carried : isRefused (move .answer) ≡ false
+pub record StepRight (m k : ℕ) (rows : Rows) (notes : ReaderNotes) (effect : ReaderEffect) : Type 0 where
+  pub ok : ReaderOK m k rows (steppedReader notes (effect .answer) rows) (effect .work)
+  pub right : ReaderRight m k rows (steppedReader notes (effect .answer) rows) (effect .answer)
+  pub carried : isRefused (effect .answer) ≡ false
 
 module _ (m k reach : ℕ) (counts slots : List ℕ) (rows : Rows) (agrees : Agrees m k reach counts slots rows) (notes : ReaderNotes) where
   -- a lookup's step
@@ -172,9 +174,9 @@ module _ (m k reach : ℕ) (counts slots : List ℕ) (rows : Rows) (agrees : Agr
     first-made Unread = tt
     first-made (Probing probe) = omega arith
 
-    moved-right : (after : Searched) → Knows (Missed point moments) m k point rows after → OneStep k (searchLeft k search) after → StepRight m k rows notes (lookupMove point after)
-    unfolding lookupMove lookupAnswer steppedReader searchedLeft lookupRow lookupEntry isRefused
-    moved-right (Going s) known one =
+    effect-right : (after : Searched) → Knows (Missed point moments) m k point rows after → OneStep k (searchLeft k search) after → StepRight m k rows notes (lookupEffect point after)
+    unfolding lookupEffect lookupEnding steppedReader searchedLeft lookupRow lookupEntry
+    effect-right (Going s) known one =
         record {
           ok =
               record {
@@ -186,22 +188,22 @@ module _ (m k reach : ℕ) (counts slots : List ℕ) (rows : Rows) (agrees : Agr
           right = lookup-underway (omega (arith, ok .left, one .less, some-left k s));
           carried = refl;
         }
-    moved-right (Answered (Found place)) known one =
+    effect-right (Answered (Found place)) known one =
         record {
           ok = tt;
           right =
-              lookup-found (place .value)
+              lookup-ended _
               (record {
                 one-moment = here (sym (ap (λ (q : ℕ). lookupEntry (entryOf q rows)) (sym (ok .asked)) ∙ ap lookupEntry (known .found)));
                 in-time = omega (arith, ok .left, one .less);
               });
           carried = refl;
         }
-    moved-right (Answered Unknown) known one =
+    effect-right (Answered Unknown) known one =
         record {
           ok = tt;
           right =
-              lookup-unknown
+              lookup-ended _
               (record {
                 one-moment = some-map (λ (then : Rows) e. sym (ap (λ (q : ℕ). lookupEntry (entryOf q then)) (sym (ok .asked)) ∙ ap lookupEntry e)) moments known;
                 in-time = omega (arith, ok .left, one .less);
@@ -209,8 +211,8 @@ module _ (m k reach : ℕ) (counts slots : List ℕ) (rows : Rows) (agrees : Agr
           carried = refl;
         }
 
-    pub lookup-right : StepRight m k rows notes (lookupMove point (searchAdvance reach point search word))
-    lookup-right = moved-right (searchAdvance reach point search word) knows (search-step k reach point search word (agrees .reach-high) fits)
+    pub lookup-right : StepRight m k rows notes (lookupEffect point (searchAdvance reach point search word))
+    lookup-right = effect-right (searchAdvance reach point search word) knows (search-step k reach point search word (agrees .reach-high) fits)
 
   -- a walk's step
   module _ (walk : Walk) (inside : walk .next < m) (ok : WalkingOK rows notes (walk .next)) where
@@ -304,7 +306,7 @@ module _ (m k reach : ℕ) (counts slots : List ℕ) (rows : Rows) (agrees : Agr
     report-at = subst (λ (slot : ℕ). ReportTrue rows slot read) (omega (arith, ok .steps)) report
 
     pub walk-right : StepRight m k rows notes (walkAdvance m walk read)
-    unfolding walkAdvance steppedReader wordGiven ReportedOnce isRefused
+    unfolding walkAdvance steppedReader wordGiven ReportedOnce
     walk-right = go (ltb (next + 1) m) refl
       where
         go : (more : Bool) → ltb (next + 1) m ≡ more → StepRight m k rows notes (cond more (record { work = Walking (record { next = next + 1 }); answer = walked read }) (record { work = Idle; answer = walkedLast read }))
@@ -324,8 +326,8 @@ module _ (m k reach : ℕ) (counts slots : List ℕ) (rows : Rows) (agrees : Agr
             record { ok = tt; right = walk-ended read report-at (omega (arith, ok .steps)) (once (omega arith)); carried = refl }
 
   -- a step of a reader at work
-  pub reader-right : (work : ReaderWork) → workInRange m k work ≡ true → isIdle work ≡ false → ReaderOK m k rows notes work → StepRight m k rows notes (readerAdvance m reach work (wordRead slots (readerAccess m work)))
-  unfolding isIdle workInRange lookupInRange readerAccess readerAdvance lookupAdvance wordRead
+  pub reader-right : (work : ReaderWork) → workInRange m k work ≡ true → isReaderIdle work ≡ false → ReaderOK m k rows notes work → StepRight m k rows notes (readerAdvance m reach work (wordRead slots (readerAccess m work)))
+  unfolding workInRange lookupInRange readerAccess readerAdvance lookupAdvance wordRead
   reader-right Idle fits busy ok = absurd (false≢true (sym busy))
   reader-right (LookingUp lookup) fits busy ok =
       lookup-right (lookup .point) (lookup .search) (both-left (validPoint (lookup .point)) (searchInRange k (lookup .search)) fits)

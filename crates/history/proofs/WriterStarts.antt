@@ -5,8 +5,8 @@ use mathlib.Core.Path.{_≡_, refl, sym, subst}
 use mathlib.Core.List.{List, [], _∷_}
 use native.Mathlib.Omega.{arith}
 use lib.ListN.{length}
-use Rattle.refusal.specs.Judging.{both, either}
-use Rattle.refusal.proofs.Laws.{both-true}
+use Rattle.conditions.specs.Conditions.{both, either}
+use Rattle.conditions.proofs.ConditionLaws.{both-true}
 use Rattle.record.specs.declared.Record.{Record}
 use Rattle.record.specs.declared.Station.{Station}
 use Rattle.record.specs.declared.Search.the-variants.{Unread}
@@ -17,15 +17,16 @@ use Rattle.record.specs.declared.RemovalStage.the-variants.{Searching as Remova
 use Rattle.record.specs.declared.WriterWork.{WriterWork}
 use Rattle.record.specs.declared.WriterWork.the-variants.{Idle, Putting, Changing, Removing}
 use Rattle.record.specs.Parts.{workOf, withWriter, stationOf}
-use Rattle.work_ranges.specs.WorkRanges.{validPoint, searchInRange, putStageInRange, putInRange, alterationInRange, changeStageInRange, changeInRange, removalStageInRange, removalInRange, writerInRange}
+use Rattle.slot_words.specs.Points.{validPoint}
+use Rattle.work_ranges.specs.WorkRanges.{searchInRange, putStageInRange, putInRange, alterationInRange, changeStageInRange, changeInRange, removalStageInRange, removalInRange, writerInRange}
 use Rattle.record_ranges.specs.Ranges.{inRange}
-use Rattle.answers.specs.Answers.{started, storedAnswer, isStarted, Outcome, outcome}
+use Rattle.answers.specs.Answers.{started, storedAnswer, Outcome, outcome}
 use Rattle.plain_list.specs.PlainList.{Operation, put, change, removal, Each, here}
 use Rattle.plain_list.proofs.Agreement.{Tight}
 use Rattle.search.proofs.SearchLaws.{searchLeft}
-use Rattle.moves.specs.Moves.{isIdle}
-use Rattle.moves.proofs.MoveLaws.{putSearchLeft, putLeft, changeLeft, removalLeft, writerLeft}
-use Rattle.moves.proofs.StepAgreement.{WorkOK, fedBy}
+use Rattle.record.specs.Idle.{isWriterIdle}
+use Rattle.effects.proofs.EffectLaws.{putSearchLeft, putLeft, changeLeft, removalLeft, writerLeft}
+use Rattle.effects.proofs.StepAgreement.{WorkOK, fedBy}
 use Rattle.change.specs.Change.{masksOf}
 use Rattle.writer.specs.Starts.{startPut, startChange, startRemoval}
 use Rattle.writer.proofs.WriterAgreement.{operationOf}
@@ -33,14 +34,13 @@ use Rattle.writer.proofs.CallCases.{Began, refuses-start, begins, began}
 use Rattle.command.specs.declared.Sent.{Sent}
 use Rattle.command.specs.Command.{sentIn, commandedChange, startCommand}
 use Rattle.command.proofs.CommandLaws.{Entered, refuses, repeats, starts, entered, command-in-range}
-use Rattle.history.specs.World.{writerStart, asChange, World, storesNow, endsNow, feedsNow, rowsNow, begunWriter, writerNow, readerNow, noted}
+use Rattle.history.specs.World.{writerStart, asChange, World, storesNow, endsNow, endedNow, feedsNow, rowsNow, begunWriter, writerNow, readerNow, noted}
 use Rattle.history.specs.Claim.{Gave, start-made, stepBound}
 use Rattle.history.proofs.Commands.{commandOf, IsNext, lastSent, with-command}
 use Rattle.history.proofs.Invariant.{Inv}
 use Rattle.history.proofs.ReaderCalls.{Kept, still, refused-kept, again-kept}
 
-pub idle-is : (work : WriterWork) → isIdle work ≡ true → work ≡ Idle
-unfolding isIdle
+pub idle-is : (work : WriterWork) → isWriterIdle work ≡ true → work ≡ Idle
 idle-is Idle e = refl
 idle-is (Putting p) e = absurd (false≢true e)
 idle-is (Changing c) e = absurd (false≢true e)
@@ -69,8 +69,8 @@ module _ (world : World) (inv : Inv (world .panel .m) (world .panel .k) world) w
     in-turn : Each (IsNext (panel .stations)) (commandOf work)
 
   -- the writer is given its work
-  begun-kept : (operation : Operation) (command : List Sent) (work : WriterWork) → Fresh operation command work → isIdle (panel .writer) ≡ true → inRange (length slots) (withWriter panel work) ≡ true → Kept world (writerStart operation command) (outcome (withWriter panel work) slots started)
-  unfolding withWriter workOf noted rowsNow feedsNow storesNow endsNow writerNow readerNow begunWriter isStarted either both
+  begun-kept : (operation : Operation) (command : List Sent) (work : WriterWork) → Fresh operation command work → isWriterIdle (panel .writer .work) ≡ true → inRange (length slots) (withWriter panel work) ≡ true → Kept world (writerStart operation command) (outcome (withWriter panel work) slots started)
+  unfolding withWriter workOf noted rowsNow feedsNow storesNow endsNow endedNow writerNow readerNow begunWriter either both
   begun-kept operation command work fresh idle fits =
       record {
         inv =
@@ -80,7 +80,7 @@ module _ (world : World) (inv : Inv (world .panel .m) (world .panel .k) world) w
               fits = fits;
               all-readers = inv .all-readers;
               agrees = inv .agrees;
-              work = fresh .in-order (subst (λ (w : WriterWork). WorkOK m k (panel .reach) slots (world .rows) w) (idle-is (panel .writer) idle) (inv .work));
+              work = fresh .in-order (subst (λ (w : WriterWork). WorkOK m k (panel .reach) slots (world .rows) w) (idle-is (panel .writer .work) idle) (inv .work));
               writer = λ busy.
                   record {
                     asked = fresh .is-operation;
@@ -90,7 +90,7 @@ module _ (world : World) (inv : Inv (world .panel .m) (world .panel .k) world) w
                     left = omega (arith, fresh .bounded);
                   };
               readers = still world inv;
-              commands = with-command (panel .stations) (commandOf (panel .writer)) (commandOf work) (world .acts) (world .ended) (inv .commands) (fresh .in-turn);
+              commands = with-command (panel .stations) (commandOf (panel .writer .work)) (commandOf work) (world .acts) (world .ended) (inv .commands) (fresh .in-turn);
             };
         right = start-made;
       }

@@ -9,7 +9,7 @@ use native.Mathlib.Omega.{arith}
 use borrow.Author.Tests.{eq-eqb, ne-eqb}
 use lib.Dec.{eqb}
 use lib.ListN.{length, getD}
-use Rattle.refusal.specs.Judging.{both, either}
+use Rattle.conditions.specs.Conditions.{both, either}
 use Rattle.record.specs.declared.Record.{Record}
 use Rattle.record.specs.declared.Reader.{Reader}
 use Rattle.record.specs.declared.Station.{Station}
@@ -17,75 +17,30 @@ use Rattle.record.specs.declared.WriterWork.{WriterWork}
 use Rattle.record.specs.declared.WriterWork.the-variants.{Idle}
 use Rattle.record.specs.Parts.{idleReader, workOf, withWriter}
 use Rattle.record_ranges.proofs.Laws.{fields}
-use Rattle.answers.specs.Answers.{Answer, started, underway, lookedUp, placed, changed, removed, endedWith, walked, walkedLast, givenAgain, gives, refused, hasEnded, isRefused, Outcome, outcome}
+use Rattle.answers.specs.Answers.{Ending, removed, Answer, Progress, continues, finishes, stepAnswer, hasEnded, isRefused, Outcome, outcome}
 use Rattle.plain_list.specs.PlainList.{Rows, Operation, feed, largestIndex}
 use Rattle.plain_list.proofs.RowLaws.{Steady, steady-same}
-use Rattle.moves.specs.declared.memory.WriterAccess.{WriterAccess}
-use Rattle.moves.specs.Memory.{accessRead, slotsAfter, storesSlot}
-use Rattle.moves.specs.Moves.{WriterMove, isIdle, updated}
-use Rattle.moves.proofs.MoveLaws.{writerLeft, some-left, Updated, update-leaves}
-use Rattle.moves.proofs.StepAgreement.{begun, fedBy, isWriterEnd, Recorded, no-command, command-ends, After, StepOK, goes-on, ends-fed, empties, lowers}
-use Rattle.writer.specs.Step.{writerAccess, writerAdvance, moved, writerRuns, stepWriter}
+use Rattle.effects.specs.declared.memory.WriterAccess.{WriterAccess}
+use Rattle.effects.specs.Memory.{slotStored, accessRead, slotsAfter, storesSlot}
+use Rattle.effects.specs.Effects.{WriterEffect, updated}
+use Rattle.record.specs.Idle.{isWriterIdle}
+use Rattle.effects.proofs.EffectLaws.{writerLeft, some-left, Updated, update-leaves}
+use Rattle.effects.proofs.StepAgreement.{begun, fedBy, Recorded, no-command, command-ends, After, StepOK, goes-on, ends-fed, empties, lowers}
+use Rattle.writer.specs.Step.{writerAccess, writerAdvance, afterStep, writerRuns, stepWriter}
 use Rattle.writer.proofs.WriterLaws.{run-in-range, run-less}
 use Rattle.writer.proofs.WriterAgreement.{operationOf, operation-begun, writer-agrees}
 use Rattle.writer.proofs.CallCases.{Stepped, refuses-step, runs, stepped}
 use Rattle.command.specs.declared.Sent.{Sent}
-use Rattle.history.specs.World.{writerStep, WriterNotes, Given, World, storesNow, endsNow, feedsNow, toldNow, rowsNow, steppedWriter, writerNow, witnessed, readerNow, givenTo, noted}
-use Rattle.history.specs.Claim.{stepBound, Ended, WriterRight, writer-underway, put-ended, change-ended, removal-ended, ended-with}
+use Rattle.history.specs.World.{writerStep, WriterNotes, Given, World, storesNow, endsNow, feedsNow, toldNow, rowsNow, steppedWriter, writerNow, witnessed, readerNow, givenTo, endedBy, endedNow, noted}
+use Rattle.history.specs.Claim.{stepBound, WriterRight, writer-underway, writer-ended}
 use Rattle.history.proofs.Readers.{ReaderOK, reader-on}
-use Rattle.history.proofs.Commands.{sentBy, alteredBy, commandOf, command-begun, no-command-of, fed-no-command, CommandsOK, with-command, recorded}
+use Rattle.history.proofs.Commands.{sentBy, alteredBy, commandOf, command-begun, no-command-of, fed-no-command, fed-not-command, CommandsOK, with-command, recorded}
 use Rattle.history.proofs.Invariant.{WriterOK, Inv}
 use Rattle.history.proofs.ReaderCalls.{Kept, refused-kept}
 
--- an answer that ends an operation of the writer ends one, and is no refusal
-end-ends : (answer : Answer) → isWriterEnd answer ≡ true → hasEnded answer ≡ true
-unfolding isWriterEnd hasEnded
-end-ends started e = e
-end-ends underway e = e
-end-ends (lookedUp value) e = refl
-end-ends (placed slot index) e = refl
-end-ends (changed value) e = refl
-end-ends (removed reach) e = refl
-end-ends (endedWith n) e = refl
-end-ends (walked word) e = e
-end-ends (walkedLast word) e = refl
-end-ends (givenAgain answer) e = e
-end-ends (gives values) e = e
-end-ends (refused n) e = e
-
-end-carried : (answer : Answer) → hasEnded answer ≡ true → isRefused answer ≡ false
-unfolding hasEnded isRefused
-end-carried started e = refl
-end-carried underway e = refl
-end-carried (lookedUp value) e = refl
-end-carried (placed slot index) e = refl
-end-carried (changed value) e = refl
-end-carried (removed reach) e = refl
-end-carried (endedWith n) e = refl
-end-carried (walked word) e = refl
-end-carried (walkedLast word) e = refl
-end-carried (givenAgain answer) e = refl
-end-carried (gives values) e = refl
-end-carried (refused n) e = absurd (false≢true e)
-
-end-right : (k : ℕ) (notes : WriterNotes) (answer : Answer) → isWriterEnd answer ≡ true → Ended k notes answer → WriterRight k notes answer
-unfolding isWriterEnd
-end-right k notes started e h = absurd (false≢true e)
-end-right k notes underway e h = absurd (false≢true e)
-end-right k notes (lookedUp value) e h = absurd (false≢true e)
-end-right k notes (placed slot index) e h = put-ended slot index h
-end-right k notes (changed value) e h = change-ended value h
-end-right k notes (removed reach) e h = removal-ended reach h
-end-right k notes (endedWith n) e h = ended-with n h
-end-right k notes (walked word) e h = absurd (false≢true e)
-end-right k notes (walkedLast word) e h = absurd (false≢true e)
-end-right k notes (givenAgain answer) e h = absurd (false≢true e)
-end-right k notes (gives values) e h = absurd (false≢true e)
-end-right k notes (refused n) e h = absurd (false≢true e)
-
--- the world after a step of the writer: whether it was refused, feeds the list, stores a slot, ends the operation
-abbrev steppedWorld : World → Record → List ℕ → Answer → Bool → Bool → Bool → Bool → World
-steppedWorld world panel slots answer gone feeding storing ending =
+-- the world after a step of the writer: whether it was refused, feeds the list, stores a slot
+abbrev steppedWorld : World → Record → List ℕ → Answer → Bool → Bool → Bool → World
+steppedWorld world panel slots answer gone feeding storing =
     record {
       panel = panel;
       slots = slots;
@@ -93,12 +48,12 @@ steppedWorld world panel slots answer gone feeding storing ending =
       writer = cond gone (world .writer) (steppedWriter (world .writer) feeding (toldNow world));
       readers = λ (n : ℕ). witnessed (world .readers n) (cond feeding (toldNow world .rows) (world .rows));
       acts = cond storing (world .writer .command ++ world .acts) (world .acts);
-      ended = cond ending (givenTo (world .writer .command) answer ++ world .ended) (world .ended);
+      ended = endedBy (world .writer .command) answer ++ world .ended;
     }
 
-noted-as : (world : World) (panel : Record) (slots : List ℕ) (answer : Answer) (gone stores ended none : Bool) → isRefused answer ≡ gone → storesSlot (writerAccess (world .panel) (world .panel .writer)) ≡ stores → hasEnded answer ≡ ended → eqb (world .writer .feeds) 0 ≡ none → noted world writerStep (outcome panel slots answer) ≡ steppedWorld world panel slots answer gone (either (both (not gone) stores) (both ended none)) (both (not gone) stores) ended
-unfolding noted rowsNow feedsNow storesNow endsNow writerNow readerNow
-noted-as world panel slots answer gone stores ended none e f g h = rw (e, f, g, h)
+noted-as : (world : World) (panel : Record) (slots : List ℕ) (answer : Answer) (gone stores over none : Bool) → isRefused answer ≡ gone → storesSlot (writerAccess (world .panel) (world .panel .writer .work)) ≡ stores → hasEnded answer ≡ over → eqb (world .writer .feeds) 0 ≡ none → noted world writerStep (outcome panel slots answer) ≡ steppedWorld world panel slots answer gone (either (both (not gone) stores) (both over none)) (both (not gone) stores)
+unfolding noted rowsNow feedsNow storesNow endsNow endedNow writerNow readerNow
+noted-as world panel slots answer gone stores over none e f g h = rw (e, f, g, h)
 
 module _ (world : World) (inv : Inv (world .panel .m) (world .panel .k) world) where
   abbrev m : ℕ
@@ -114,46 +69,46 @@ module _ (world : World) (inv : Inv (world .panel .m) (world .panel .k) world) w
   slots = world .slots
 
   abbrev work : WriterWork
-  work = world .panel .writer
+  work = world .panel .writer .work
 
   abbrev notes : WriterNotes
   notes = world .writer
 
   -- a step of a writer at work
-  module _ (busy : isIdle work ≡ false) where
+  module _ (busy : isWriterIdle work ≡ false) where
     abbrev access : WriterAccess
     access = writerAccess panel work
 
-    abbrev move : WriterMove
-    move = writerAdvance panel work (accessRead slots access)
+    abbrev effect : WriterEffect
+    effect = writerAdvance panel work (slotStored access) (accessRead slots access)
 
     abbrev after : Record
-    after = updated panel (move .update)
+    after = updated panel (effect .update)
 
     noted-ok : WriterOK m k (panel .reach) (world .rows) notes work
     noted-ok = inv .writer busy
 
-    step-ok : StepOK panel slots access move (world .rows) (toldNow world) work
+    step-ok : StepOK panel slots access effect (world .rows) (toldNow world) work
     unfolding toldNow
     step-ok =
-        subst (λ (operation : Operation). StepOK panel slots access move (world .rows) (feed m k operation (world .rows)) work) (sym (noted-ok .asked))
+        subst (λ (operation : Operation). StepOK panel slots access effect (world .rows) (feed m k operation (world .rows)) work) (sym (noted-ok .asked))
         (writer-agrees panel slots (world .rows) work (inv .agrees) (fields (length slots) panel (inv .fits) .writer-fits) busy (inv .work))
 
-    leaves : Updated panel (move .update)
-    leaves = update-leaves panel (move .update)
+    leaves : Updated panel (effect .update)
+    leaves = update-leaves panel (effect .update)
 
-    less : writerLeft k (after .reach) (move .work) + 1 ≤ writerLeft k (panel .reach) work
-    unfolding writerRuns moved withWriter
-    less = subst (λ (x : ℕ). writerLeft x (after .reach) (move .work) + 1 ≤ writerLeft k (panel .reach) work) (leaves .k-stays) (run-less panel slots (inv .fits) busy)
+    less : writerLeft k (after .reach) (effect .work) + 1 ≤ writerLeft k (panel .reach) work
+    unfolding writerRuns afterStep withWriter
+    less = subst (λ (x : ℕ). writerLeft x (after .reach) (effect .work) + 1 ≤ writerLeft k (panel .reach) work) (leaves .k-stays) (run-less panel slots (inv .fits) busy)
 
     -- the readers' work stays
-    work-stays : (n : ℕ) → workOf panel n ≡ workOf (withWriter after (move .work)) n
+    work-stays : (n : ℕ) → workOf panel n ≡ workOf (withWriter after (effect .work)) n
     unfolding workOf withWriter
     work-stays n = ap (λ (l : List Reader). getD l n idleReader .work) (sym (leaves .readers-stay))
 
     -- the world after the step, where the plain list is then this
-    stepped-inv : (rows : Rows) (new : WriterNotes) (acts : List Sent) (ended : List Given) → Steady (world .rows) rows → After panel slots access move rows → (isIdle (move .work) ≡ false → WriterOK m k (after .reach) rows new (move .work)) → CommandsOK (after .stations) (commandOf (move .work)) acts ended → Inv m k (record { panel = withWriter after (move .work); slots = slotsAfter slots access; rows = rows; writer = new; readers = λ (n : ℕ). witnessed (world .readers n) rows; acts = acts; ended = ended })
-    unfolding writerRuns moved withWriter
+    stepped-inv : (rows : Rows) (new : WriterNotes) (acts : List Sent) (ended : List Given) → Steady (world .rows) rows → After panel slots access effect rows → (isWriterIdle (effect .work) ≡ false → WriterOK m k (after .reach) rows new (effect .work)) → CommandsOK (after .stations) (commandOf (effect .work)) acts ended → Inv m k (record { panel = withWriter after (effect .work); slots = slotsAfter slots access; rows = rows; writer = new; readers = λ (n : ℕ). witnessed (world .readers n) rows; acts = acts; ended = ended })
+    unfolding writerRuns afterStep withWriter
     stepped-inv rows new acts ended steady then writes commands =
         record {
           m-is = leaves .m-stays;
@@ -168,19 +123,19 @@ module _ (world : World) (inv : Inv (world .panel .m) (world .panel .k) world) w
         }
 
     -- the operation and the command stay the same while the work goes on
-    same-operation : begun (move .work) ≡ begun work → notes .asked ≡ operationOf (move .work)
-    same-operation e = noted-ok .asked ∙ (sym (operation-begun work) ∙ (ap operationOf (sym e) ∙ operation-begun (move .work)))
+    same-operation : begun (effect .work) ≡ begun work → notes .asked ≡ operationOf (effect .work)
+    same-operation e = noted-ok .asked ∙ (sym (operation-begun work) ∙ (ap operationOf (sym e) ∙ operation-begun (effect .work)))
 
-    same-command : begun (move .work) ≡ begun work → commandOf work ≡ commandOf (move .work)
-    same-command e = sym (command-begun work) ∙ (ap commandOf (sym e) ∙ command-begun (move .work))
+    same-command : begun (effect .work) ≡ begun work → commandOf work ≡ commandOf (effect .work)
+    same-command e = sym (command-begun work) ∙ (ap commandOf (sym e) ∙ command-begun (effect .work))
 
-    commands-on : begun (move .work) ≡ begun work → after .stations ≡ panel .stations → CommandsOK (after .stations) (commandOf (move .work)) (world .acts) (world .ended)
+    commands-on : begun (effect .work) ≡ begun work → after .stations ≡ panel .stations → CommandsOK (after .stations) (commandOf (effect .work)) (world .acts) (world .ended)
     commands-on e stay =
-        subst (λ (stations : List Station). CommandsOK stations (commandOf (move .work)) (world .acts) (world .ended)) (sym stay)
+        subst (λ (stations : List Station). CommandsOK stations (commandOf (effect .work)) (world .acts) (world .ended)) (sym stay)
         (subst (λ (command : List Sent). CommandsOK (panel .stations) command (world .acts) (world .ended)) (same-command e) (inv .commands))
 
     -- no command: nothing acts and no command ends
-    commands-idle : move .work ≡ Idle → after .stations ≡ panel .stations → CommandsOK (after .stations) (commandOf (move .work)) (world .acts) (world .ended)
+    commands-idle : effect .work ≡ Idle → after .stations ≡ panel .stations → CommandsOK (after .stations) (commandOf (effect .work)) (world .acts) (world .ended)
     unfolding commandOf
     commands-idle e stay =
         subst (λ (w : WriterWork). CommandsOK (after .stations) (commandOf w) (world .acts) (world .ended)) (sym e)
@@ -191,44 +146,54 @@ module _ (world : World) (inv : Inv (world .panel .m) (world .panel .k) world) w
     no-acts none true = ap (λ (l : List Sent). l ++ world .acts) (noted-ok .command ∙ none)
     no-acts none false = refl
 
-    no-ends : (answer : Answer) → commandOf work ≡ [] → (ending : Bool) → cond ending (givenTo (notes .command) answer ++ world .ended) (world .ended) ≡ world .ended
-    unfolding givenTo
-    no-ends answer none true = ap (λ (l : List Sent). givenTo l answer ++ world .ended) (noted-ok .command ∙ none)
-    no-ends answer none false = refl
-
     -- after its last step the writer has no work
-    idle-absurd : {A : Type 0} → move .work ≡ Idle → isIdle (move .work) ≡ false → A
-    unfolding isIdle
-    idle-absurd e f = absurd (false≢true (sym f ∙ ap isIdle e))
+    idle-absurd : {A : Type 0} → effect .work ≡ Idle → isWriterIdle (effect .work) ≡ false → A
+    idle-absurd e f = absurd (false≢true (sym f ∙ ap isWriterIdle e))
 
     -- the step takes one of those that are left
     in-time : notes .steps + 1 ≤ stepBound k (notes .asked)
     in-time = omega (arith, noted-ok .left, less)
 
-    in-time-more : isIdle (move .work) ≡ false → notes .steps + 1 < stepBound k (notes .asked)
-    in-time-more on = omega (arith, noted-ok .left, less, some-left k (after .reach) (move .work) on)
+    in-time-more : isWriterIdle (effect .work) ≡ false → notes .steps + 1 < stepBound k (notes .asked)
+    in-time-more on = omega (arith, noted-ok .left, less, some-left k (after .reach) (effect .work) on)
 
-    left-after : notes .steps + 1 + writerLeft k (after .reach) (move .work) ≤ stepBound k (notes .asked)
+    left-after : notes .steps + 1 + writerLeft k (after .reach) (effect .work) ≤ stepBound k (notes .asked)
     left-after = omega (arith, noted-ok .left, less)
 
-    abbrev next-world : Bool → Bool → Bool → World
-    next-world feeding storing ending = steppedWorld world (withWriter after (move .work)) (slotsAfter slots access) (move .answer) false feeding storing ending
+    abbrev answer : Answer
+    answer = stepAnswer (effect .progress)
+
+    abbrev next-world : Bool → Bool → World
+    next-world feeding storing = steppedWorld world (withWriter after (effect .work)) (slotsAfter slots access) answer false feeding storing
 
     -- a step that was carried out: from what is shown of its world to what is asked of it
-    carried-out : (stores ended none : Bool) → isRefused (move .answer) ≡ false → storesSlot access ≡ stores → hasEnded (move .answer) ≡ ended → eqb (notes .feeds) 0 ≡ none → Inv m k (next-world (either (both true stores) (both ended none)) (both true stores) ended) → WriterRight k (next-world (either (both true stores) (both ended none)) (both true stores) ended .writer) (move .answer) → Kept world writerStep (writerRuns panel slots work)
-    unfolding writerRuns moved
-    carried-out stores ended none e f g h holds right =
-        let same = noted-as world (withWriter after (move .work)) (slotsAfter slots access) (move .answer) false stores ended none e f g h in
+    carried-out : (progress : Progress) → effect .progress ≡ progress → (stores none : Bool) → storesSlot access ≡ stores → eqb (notes .feeds) 0 ≡ none → Inv m k (next-world (either (both true stores) (both (hasEnded (stepAnswer progress)) none)) (both true stores)) → WriterRight k (next-world (either (both true stores) (both (hasEnded (stepAnswer progress)) none)) (both true stores) .writer) (stepAnswer progress) → Kept world writerStep (writerRuns panel slots work)
+    unfolding writerRuns afterStep
+    carried-out progress e stores none f h holds right =
+        let same = noted-as world (withWriter after (effect .work)) (slotsAfter slots access) answer false stores (hasEnded (stepAnswer progress)) none (ap (λ (p : Progress). isRefused (stepAnswer p)) e ∙ never-refused progress) f (ap (λ (p : Progress). hasEnded (stepAnswer p)) e) h in
         record {
           inv = subst (Inv m k) (sym same) holds;
-          right = subst (λ (w : World). WriterRight k (w .writer) (move .answer)) (sym same) right;
+          right = subst (λ (w : World). WriterRight k (w .writer) answer) (sym same) (subst (λ (p : Progress). WriterRight k (next-world (either (both true stores) (both (hasEnded (stepAnswer progress)) none)) (both true stores) .writer) (stepAnswer p)) (sym e) right);
         }
+      where
+        never-refused : (p : Progress) → isRefused (stepAnswer p) ≡ false
+        never-refused continues = refl
+        never-refused (finishes ending) = refl
 
-    on-kept : storesSlot access ≡ false → fedBy work ≡ 0 → fedBy (move .work) ≡ 0 → begun (move .work) ≡ begun work → isIdle (move .work) ≡ false → move .answer ≡ underway → after .stations ≡ panel .stations → After panel slots access move (world .rows) → Kept world writerStep (writerRuns panel slots work)
-    unfolding isRefused hasEnded steppedWriter either both
-    on-kept stores unfed still-unfed same on answer stay then =
-        carried-out false false (eqb (notes .feeds) 0) (ap isRefused answer) stores (ap hasEnded answer) refl
-        (stepped-inv (world .rows) (steppedWriter notes false (toldNow world)) (world .acts) (world .ended) (steady-same (world .rows)) then
+    -- a step that goes on ends no command; one that ends the operation ends its command
+    none-ended : effect .progress ≡ continues → endedBy (notes .command) answer ++ world .ended ≡ world .ended
+    unfolding endedBy
+    none-ended e = ap (λ (p : Progress). endedBy (notes .command) (stepAnswer p) ++ world .ended) e
+
+    ended-with : (ending : Ending) → effect .progress ≡ finishes ending → endedBy (notes .command) answer ++ world .ended ≡ givenTo (notes .command) ending ++ world .ended
+    unfolding endedBy
+    ended-with ending e = ap (λ (p : Progress). endedBy (notes .command) (stepAnswer p) ++ world .ended) e
+
+    on-kept : storesSlot access ≡ false → fedBy work ≡ 0 → fedBy (effect .work) ≡ 0 → begun (effect .work) ≡ begun work → isWriterIdle (effect .work) ≡ false → effect .progress ≡ continues → after .stations ≡ panel .stations → After panel slots access effect (world .rows) → Kept world writerStep (writerRuns panel slots work)
+    unfolding steppedWriter either both
+    on-kept stores unfed still-unfed same on goes stay then =
+        carried-out continues goes false (eqb (notes .feeds) 0) stores refl
+        (stepped-inv (world .rows) (steppedWriter notes false (toldNow world)) (world .acts) (endedBy (notes .command) answer ++ world .ended) (steady-same (world .rows)) then
         (λ going.
         record {
           asked = same-operation same;
@@ -237,8 +202,8 @@ module _ (world : World) (inv : Inv (world .panel .m) (world .panel .k) world) w
           told = λ fed. absurd (omega arith);
           left = left-after;
         })
-        (commands-on same stay))
-        (subst (WriterRight k (steppedWriter notes false (toldNow world))) (sym answer) (writer-underway (in-time-more on)))
+        (subst (λ (ended : List Given). CommandsOK (after .stations) (commandOf (effect .work)) (world .acts) ended) (sym (none-ended goes)) (commands-on same stay)))
+        (writer-underway (in-time-more on))
 
     none-fed : fedBy work ≡ 0 → eqb (notes .feeds) 0 ≡ true
     none-fed unfed = eq-eqb (notes .feeds) 0 (noted-ok .feeds ∙ unfed)
@@ -246,12 +211,12 @@ module _ (world : World) (inv : Inv (world .panel .m) (world .panel .k) world) w
     once-fed : fedBy work ≡ 0 → notes .feeds + 1 ≡ 1
     once-fed unfed = omega (arith, noted-ok .feeds)
 
-    empties-kept : storesSlot access ≡ true → fedBy work ≡ 0 → fedBy (move .work) ≡ 1 → begun (move .work) ≡ begun work → isIdle (move .work) ≡ false → move .answer ≡ underway → toldNow world .answer ≡ removed (largestIndex m k (toldNow world .rows)) → Steady (world .rows) (toldNow world .rows) → after .stations ≡ panel .stations → After panel slots access move (toldNow world .rows) → Kept world writerStep (writerRuns panel slots work)
-    unfolding isRefused hasEnded steppedWriter either both
-    empties-kept stores unfed fed same on answer tells steady stay then =
-        let none = same-command same ∙ fed-no-command (move .work) fed in
-        carried-out true false true (ap isRefused answer) stores (ap hasEnded answer) (none-fed unfed)
-        (stepped-inv (toldNow world .rows) (steppedWriter notes true (toldNow world)) (notes .command ++ world .acts) (world .ended) steady then
+    empties-kept : storesSlot access ≡ true → fedBy work ≡ 0 → fedBy (effect .work) ≡ 1 → begun (effect .work) ≡ begun work → isWriterIdle (effect .work) ≡ false → effect .progress ≡ continues → toldNow world .answer ≡ removed (largestIndex m k (toldNow world .rows)) → Steady (world .rows) (toldNow world .rows) → after .stations ≡ panel .stations → After panel slots access effect (toldNow world .rows) → Kept world writerStep (writerRuns panel slots work)
+    unfolding steppedWriter either both
+    empties-kept stores unfed fed same on goes tells steady stay then =
+        let none = same-command same ∙ fed-no-command (effect .work) fed in
+        carried-out continues goes true true stores (none-fed unfed)
+        (stepped-inv (toldNow world .rows) (steppedWriter notes true (toldNow world)) (notes .command ++ world .acts) (endedBy (notes .command) answer ++ world .ended) steady then
         (λ going.
         record {
           asked = same-operation same;
@@ -260,55 +225,54 @@ module _ (world : World) (inv : Inv (world .panel .m) (world .panel .k) world) w
           told = λ e. tells;
           left = left-after;
         })
-        (subst (λ (acts : List Sent). CommandsOK (after .stations) (commandOf (move .work)) acts (world .ended)) (sym (no-acts none true)) (commands-on same stay)))
-        (subst (WriterRight k (steppedWriter notes true (toldNow world))) (sym answer) (writer-underway (in-time-more on)))
-
-    lowers-kept : storesSlot access ≡ false → fedBy work ≡ 1 → move .work ≡ Idle → move .answer ≡ removed (largestIndex m k (world .rows)) → after .stations ≡ panel .stations → After panel slots access move (world .rows) → Kept world writerStep (writerRuns panel slots work)
-    unfolding isRefused hasEnded steppedWriter either both
-    lowers-kept stores fed idle answer stay then =
-        let none = fed-no-command work fed in
-        carried-out false true false (ap isRefused answer) stores (ap hasEnded answer) (ne-eqb (notes .feeds) 0 (λ z. omega (arith, noted-ok .feeds)))
-        (stepped-inv (world .rows) (steppedWriter notes false (toldNow world)) (world .acts) (givenTo (notes .command) (move .answer) ++ world .ended) (steady-same (world .rows)) then
-        (idle-absurd idle)
-        (subst (λ (ended : List Given). CommandsOK (after .stations) (commandOf (move .work)) (world .acts) ended) (sym (no-ends (move .answer) none true)) (commands-idle idle stay)))
-        (subst (WriterRight k (steppedWriter notes false (toldNow world))) (sym answer)
-        (removal-ended (largestIndex m k (world .rows)) (record { as-told = sym (noted-ok .told fed); fed-once = noted-ok .feeds ∙ fed; in-time = in-time })))
+        (subst (λ (ended : List Given). CommandsOK (after .stations) (commandOf (effect .work)) (notes .command ++ world .acts) ended) (sym (none-ended goes))
+        (subst (λ (acts : List Sent). CommandsOK (after .stations) (commandOf (effect .work)) acts (world .ended)) (sym (no-acts none true)) (commands-on same stay))))
+        (writer-underway (in-time-more on))
 
     -- the commands after the end of an operation
-    ended-commands : (storing : Bool) → move .work ≡ Idle → (was : WriterWork) → was ≡ work → Recorded (panel .stations) (after .stations) (move .answer) was → CommandsOK (after .stations) (commandOf (move .work)) (cond storing (notes .command ++ world .acts) (world .acts)) (givenTo (notes .command) (move .answer) ++ world .ended)
+    ended-commands : (storing : Bool) (ending : Ending) → effect .work ≡ Idle → effect .progress ≡ finishes ending → (was : WriterWork) → was ≡ work → Recorded (panel .stations) (after .stations) ending was → CommandsOK (after .stations) (commandOf (effect .work)) (cond storing (notes .command ++ world .acts) (world .acts)) (endedBy (notes .command) answer ++ world .ended)
     unfolding commandOf givenTo
-    ended-commands storing idle was is (no-command not-one stay) =
+    ended-commands storing ending idle over was is (no-command not-one stay) =
         let none : commandOf work ≡ [] = ap commandOf (sym is) ∙ no-command-of was not-one in
-        subst (λ (acts : List Sent). CommandsOK (after .stations) (commandOf (move .work)) acts (givenTo (notes .command) (move .answer) ++ world .ended)) (sym (no-acts none storing))
-        (subst (λ (ended : List Given). CommandsOK (after .stations) (commandOf (move .work)) (world .acts) ended) (sym (no-ends (move .answer) none true)) (commands-idle idle stay))
-    ended-commands storing idle was is (command-ends {change = change} command stored altered same stay) =
+        subst (λ (acts : List Sent). CommandsOK (after .stations) (commandOf (effect .work)) acts (endedBy (notes .command) answer ++ world .ended)) (sym (no-acts none storing))
+        (subst (λ (ended : List Given). CommandsOK (after .stations) (commandOf (effect .work)) (world .acts) ended) (sym (ended-with ending over ∙ ap (λ (l : List Sent). givenTo l ending ++ world .ended) (noted-ok .command ∙ none))) (commands-idle idle stay))
+    ended-commands storing ending idle over was is (command-ends {change = change} command stored altered same stay) =
         let sent : commandOf work ≡ sentBy (change .point) command ∷ [] = ap commandOf (sym is) ∙ ap (alteredBy (change .point)) altered in
         let before : CommandsOK (panel .stations) (sentBy (change .point) command ∷ []) (world .acts) (world .ended) = subst (λ (l : List Sent). CommandsOK (panel .stations) l (world .acts) (world .ended)) sent (inv .commands) in
-        subst (λ (l : List Sent). CommandsOK (after .stations) (commandOf (move .work)) (cond storing (l ++ world .acts) (world .acts)) (givenTo l (move .answer) ++ world .ended)) (sym (noted-ok .command ∙ sent))
-        (subst (λ (w : WriterWork). CommandsOK (after .stations) (commandOf w) (cond storing (sentBy (change .point) command ∷ world .acts) (world .acts)) (record { sent = sentBy (change .point) command; answer = move .answer } ∷ world .ended)) (sym idle)
-        (subst (λ (stations : List Station). CommandsOK stations [] (cond storing (sentBy (change .point) command ∷ world .acts) (world .acts)) (record { sent = sentBy (change .point) command; answer = move .answer } ∷ world .ended)) (sym stay)
-        (recorded (panel .stations) (sentBy (change .point) command) (world .acts) (world .ended) before stored (move .answer) same storing)))
+        subst (λ (ended : List Given). CommandsOK (after .stations) (commandOf (effect .work)) (cond storing (notes .command ++ world .acts) (world .acts)) ended) (sym (ended-with ending over))
+        (subst (λ (l : List Sent). CommandsOK (after .stations) (commandOf (effect .work)) (cond storing (l ++ world .acts) (world .acts)) (givenTo l ending ++ world .ended)) (sym (noted-ok .command ∙ sent))
+        (subst (λ (w : WriterWork). CommandsOK (after .stations) (commandOf w) (cond storing (sentBy (change .point) command ∷ world .acts) (world .acts)) (record { sent = sentBy (change .point) command; answer = ending } ∷ world .ended)) (sym idle)
+        (subst (λ (stations : List Station). CommandsOK stations [] (cond storing (sentBy (change .point) command ∷ world .acts) (world .acts)) (record { sent = sentBy (change .point) command; answer = ending } ∷ world .ended)) (sym stay)
+        (recorded (panel .stations) (sentBy (change .point) command) (world .acts) (world .ended) before stored ending same storing))))
 
-    ends-kept : (stores : Bool) → storesSlot access ≡ stores → fedBy work ≡ 0 → move .work ≡ Idle → isWriterEnd (move .answer) ≡ true → move .answer ≡ toldNow world .answer → Steady (world .rows) (toldNow world .rows) → Recorded (panel .stations) (after .stations) (move .answer) work → After panel slots access move (toldNow world .rows) → Kept world writerStep (writerRuns panel slots work)
+    lowers-kept : storesSlot access ≡ false → fedBy work ≡ 1 → effect .work ≡ Idle → effect .progress ≡ finishes (removed (largestIndex m k (world .rows))) → after .stations ≡ panel .stations → After panel slots access effect (world .rows) → Kept world writerStep (writerRuns panel slots work)
     unfolding steppedWriter either both
-    ends-kept stores storing unfed idle end answer steady record-kept then =
-        let ending = end-ends (move .answer) end in
-        carried-out stores true true (end-carried (move .answer) ending) storing ending (none-fed unfed)
-        (subst (λ (feeding : Bool). Inv m k (next-world feeding stores true)) (sym (always stores))
-        (stepped-inv (toldNow world .rows) (steppedWriter notes true (toldNow world)) (cond stores (notes .command ++ world .acts) (world .acts)) (givenTo (notes .command) (move .answer) ++ world .ended) steady then
-        (idle-absurd idle) (ended-commands stores idle work refl record-kept)))
-        (subst (λ (feeding : Bool). WriterRight k (next-world feeding stores true .writer) (move .answer)) (sym (always stores))
-        (end-right k (steppedWriter notes true (toldNow world)) (move .answer) end (record { as-told = answer; fed-once = once-fed unfed; in-time = in-time })))
+    lowers-kept stores fed idle over stay then =
+        carried-out (finishes (removed (largestIndex m k (world .rows)))) over false false stores (ne-eqb (notes .feeds) 0 (λ z. omega (arith, noted-ok .feeds)))
+        (stepped-inv (world .rows) (steppedWriter notes false (toldNow world)) (world .acts) (endedBy (notes .command) answer ++ world .ended) (steady-same (world .rows)) then
+        (idle-absurd idle)
+        (ended-commands false (removed (largestIndex m k (world .rows))) idle over work refl (no-command (fed-not-command work fed) stay)))
+        (writer-ended _ (record { as-told = sym (noted-ok .told fed); fed-once = noted-ok .feeds ∙ fed; in-time = in-time }))
+
+    ends-kept : (stores : Bool) → storesSlot access ≡ stores → fedBy work ≡ 0 → effect .work ≡ Idle → effect .progress ≡ finishes (toldNow world .answer) → Steady (world .rows) (toldNow world .rows) → Recorded (panel .stations) (after .stations) (toldNow world .answer) work → After panel slots access effect (toldNow world .rows) → Kept world writerStep (writerRuns panel slots work)
+    unfolding steppedWriter either both
+    ends-kept stores storing unfed idle over steady record-kept then =
+        carried-out (finishes (toldNow world .answer)) over stores true storing (none-fed unfed)
+        (subst (λ (feeding : Bool). Inv m k (next-world feeding stores)) (sym (always stores))
+        (stepped-inv (toldNow world .rows) (steppedWriter notes true (toldNow world)) (cond stores (notes .command ++ world .acts) (world .acts)) (endedBy (notes .command) answer ++ world .ended) steady then
+        (idle-absurd idle) (ended-commands stores (toldNow world .answer) idle over work refl record-kept)))
+        (subst (λ (feeding : Bool). WriterRight k (next-world feeding stores .writer) (stepAnswer (finishes (toldNow world .answer)))) (sym (always stores))
+        (writer-ended (toldNow world .answer) (record { as-told = refl; fed-once = once-fed unfed; in-time = in-time })))
       where
         always : (b : Bool) → either b true ≡ true
         always true = refl
         always false = refl
 
-    by-cases : StepOK panel slots access move (world .rows) (toldNow world) work → Kept world writerStep (writerRuns panel slots work)
-    by-cases (goes-on stores unfed still same on answer stay then) = on-kept stores unfed still same on answer stay then
-    by-cases (ends-fed unfed idle end answer steady record-kept then) = ends-kept (storesSlot access) refl unfed idle end answer steady record-kept then
-    by-cases (empties stores unfed fed same on answer tells steady stay then) = empties-kept stores unfed fed same on answer tells steady stay then
-    by-cases (lowers stores fed idle answer stay then) = lowers-kept stores fed idle answer stay then
+    by-cases : StepOK panel slots access effect (world .rows) (toldNow world) work → Kept world writerStep (writerRuns panel slots work)
+    by-cases (goes-on stores unfed still same on goes stay then) = on-kept stores unfed still same on goes stay then
+    by-cases (ends-fed unfed idle over steady record-kept then) = ends-kept (storesSlot access) refl unfed idle over steady record-kept then
+    by-cases (empties stores unfed fed same on goes tells steady stay then) = empties-kept stores unfed fed same on goes tells steady stay then
+    by-cases (lowers stores fed idle over stay then) = lowers-kept stores fed idle over stay then
 
     pub run-kept : Kept world writerStep (writerRuns panel slots work)
     run-kept = by-cases step-ok

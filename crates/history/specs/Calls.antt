@@ -4,7 +4,7 @@ use mathlib.Core.List.{List}
 use Rattle.record.specs.declared.Record.{Record}
 use Rattle.answers.specs.Answers.{Outcome}
 use Rattle.reader_step.specs.Reader.{stepReader}
-use Rattle.table.specs.Starts.{startLookup, startWalk}
+use Rattle.reader_starts.specs.Starts.{startLookup, startWalk}
 use Rattle.writer.specs.Starts.{startPut, startChange, startRemoval}
 use Rattle.writer.specs.Step.{stepWriter}
 use Rattle.command.specs.Command.{startCommand}

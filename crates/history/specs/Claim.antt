@@ -5,9 +5,9 @@ use mathlib.Core.List.{List, [], _∷_}
 use mathlib.Core.Logic.{_≢_}
 use mathlib.Core.Path.{_≡_}
 use lib.Dec.{eqb}
-use Rattle.refusal.specs.Judging.{both}
+use Rattle.conditions.specs.Conditions.{both}
 use Rattle.slot_words.specs.Word.{pointOf, valueOf}
-use Rattle.answers.specs.Answers.{Answer, started, underway, lookedUp, placed, changed, removed, endedWith, walked, walkedLast, givenAgain, refused}
+use Rattle.answers.specs.Answers.{Ending, Answer, started, underway, ended, walked, walkedLast, givenAgain, refused}
 use Rattle.plain_list.specs.PlainList.{Rows, absent, present, entryOf, lookupRow, Operation, nothing, put, change, removal, Each, Some, Shows}
 use Rattle.command.specs.declared.Sent.{Sent}
 use Rattle.history.specs.declared.Call.{Call}
@@ -15,18 +15,18 @@ use Rattle.history.specs.declared.Call.the-variants.{StartLookup, StartW
 use Rattle.history.specs.World.{Request, Role, readerStart, readerStep, writerStart, writerStep, roleOf, WriterNotes, ReaderNotes, Given, World, outcomeOf, next, freshWorld}
 
 -- a command's change gave this answer
-unfoldable pub Gave : List Given → Answer → Sent → Type 0
-Gave ended answer sent = Some (λ (given : Given). (given .sent ≡ sent) × (given .answer ≡ answer)) ended
+unfoldable pub Gave : List Given → Ending → Sent → Type 0
+Gave before ending sent = Some (λ (given : Given). (given .sent ≡ sent) × (given .answer ≡ ending)) before
 
 -- a start: "an answer given again is the one its change gave"; no call is refused with 1
-pub data StartRight (ended : List Given) (command : List Sent) : Answer → Type 0 where
-  start-made : StartRight ended command started
-  given-again : (answer : Answer) → Some (Gave ended answer) command → StartRight ended command (givenAgain answer)
-  start-refused : (n : ℕ) → n ≢ 1 → StartRight ended command (refused n)
+pub data StartRight (before : List Given) (command : List Sent) : Answer → Type 0 where
+  start-made : StartRight before command started
+  given-again : (ending : Ending) → Some (Gave before ending) command → StartRight before command (givenAgain ending)
+  start-refused : (n : ℕ) → n ≢ 1 → StartRight before command (refused n)
 
 -- "every lookup that has ended, one that the plain list gives after some call from its first step to its last"; it takes at most k + 1 steps
-pub record LookupRight (k : ℕ) (notes : ReaderNotes) (answer : Answer) : Type 0 where
-  pub one-moment : Some (λ (rows : Rows). answer ≡ lookupRow (notes .point) rows) (notes .moments)
+pub record LookupRight (k : ℕ) (notes : ReaderNotes) (ending : Ending) : Type 0 where
+  pub one-moment : Some (λ (rows : Rows). ending ≡ lookupRow (notes .point) rows) (notes .moments)
   pub in-time : notes .steps ≤ k + 1
 
 -- a walk: "each report was true when read", a report being a word that is not 0
@@ -45,8 +45,7 @@ ReportedOnce notes = (point : ℕ) → Each (λ (rows : Rows). entryOf point row
 -- a reader's step has one of these answers, and then this holds; a walk reads "slots 0 to m − 1, one a step, m steps"
 pub data ReaderRight (m k : ℕ) (rows : Rows) (notes : ReaderNotes) : Answer → Type 0 where
   lookup-underway : notes .steps ≤ k → ReaderRight m k rows notes underway
-  lookup-found : (value : ℕ) → LookupRight k notes (lookedUp value) → ReaderRight m k rows notes (lookedUp value)
-  lookup-unknown : LookupRight k notes (endedWith 7) → ReaderRight m k rows notes (endedWith 7)
+  lookup-ended : (ending : Ending) → LookupRight k notes ending → ReaderRight m k rows notes (ended ending)
   walk-underway : (word : ℕ) → ReportTrue rows (notes .steps - 1) word → notes .steps < m → ReaderRight m k rows notes (walked word)
   walk-ended : (word : ℕ) → ReportTrue rows (notes .steps - 1) word → notes .steps ≡ m → ReportedOnce notes → ReaderRight m k rows notes (walkedLast word)
   reader-refused : (n : ℕ) → n ≢ 1 → ReaderRight m k rows notes (refused n)
@@ -59,18 +58,15 @@ stepBound k (change point keep flip) = k + 2
 stepBound k (removal point) = k + 3
 
 -- "Every put, change or removal that has ended gave the answer above": what the plain list answered when it was fed, once; within the bound
-pub record Ended (k : ℕ) (notes : WriterNotes) (answer : Answer) : Type 0 where
-  pub as-told : answer ≡ notes .told
+pub record Ended (k : ℕ) (notes : WriterNotes) (ending : Ending) : Type 0 where
+  pub as-told : ending ≡ notes .told
   pub fed-once : notes .feeds ≡ 1
   pub in-time : notes .steps ≤ stepBound k (notes .asked)
 
 -- the writer's step has one of these answers, and then this holds
 pub data WriterRight (k : ℕ) (notes : WriterNotes) : Answer → Type 0 where
   writer-underway : notes .steps < stepBound k (notes .asked) → WriterRight k notes underway
-  put-ended : (slot index : ℕ) → Ended k notes (placed slot index) → WriterRight k notes (placed slot index)
-  change-ended : (value : ℕ) → Ended k notes (changed value) → WriterRight k notes (changed value)
-  removal-ended : (reach : ℕ) → Ended k notes (removed reach) → WriterRight k notes (removed reach)
-  ended-with : (n : ℕ) → Ended k notes (endedWith n) → WriterRight k notes (endedWith n)
+  writer-ended : (ending : Ending) → Ended k notes ending → WriterRight k notes (ended ending)
   writer-refused : (n : ℕ) → n ≢ 1 → WriterRight k notes (refused n)
 
 -- a call's answer is right, by what the call is for

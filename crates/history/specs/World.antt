@@ -5,12 +5,12 @@ use mathlib.Core.Bool.{Bool, false, cond, not}
 use mathlib.Core.List.{List, [], _∷_, _++_}
 use lib.Dec.{eqb}
 use lib.ListN.{replicate}
-use Rattle.refusal.specs.Judging.{both, either}
+use Rattle.conditions.specs.Conditions.{both, either}
 use Rattle.record.specs.declared.Record.{Record}
 use Rattle.record.specs.Parts.{freshRecord}
-use Rattle.answers.specs.Answers.{Answer, started, underway, lookedUp, placed, changed, removed, endedWith, walked, walkedLast, givenAgain, gives, refused, hasEnded, isStarted, isRefused, Outcome}
+use Rattle.answers.specs.Answers.{Ending, endedWith, Answer, started, underway, ended, walked, walkedLast, givenAgain, gives, refused, hasEnded, isStarted, isRefused, Outcome}
 use Rattle.plain_list.specs.PlainList.{Rows, Told, Operation, nothing, put, change, removal, feed}
-use Rattle.moves.specs.Memory.{storesSlot}
+use Rattle.effects.specs.Memory.{storesSlot}
 use Rattle.change.specs.Change.{actionMasks}
 use Rattle.writer.specs.Step.{writerAccess}
 use Rattle.command.specs.declared.Sent.{Sent}
@@ -57,7 +57,7 @@ pub record WriterNotes : Type 0 where
   -- how often it has fed the plain list
   pub feeds : ℕ
   -- what the plain list answered when it was last fed
-  pub told : Answer
+  pub told : Ending
 
 -- what is noted of a reader's operation
 pub record ReaderNotes : Type 0 where
@@ -73,7 +73,7 @@ pub record ReaderNotes : Type 0 where
 -- a command whose change has ended, and the answer that it gave
 pub record Given : Type 0 where
   pub sent : Sent
-  pub answer : Answer
+  pub answer : Ending
 
 -- the panel, the plain list beside it, and what is noted
 pub record World : Type 0 where
@@ -92,7 +92,7 @@ unfoldable pub storesNow : Record → Answer → Role → Bool
 storesNow panel answer (readerStart reader point) = false
 storesNow panel answer (readerStep reader) = false
 storesNow panel answer (writerStart operation command) = false
-storesNow panel answer writerStep = both (not (isRefused answer)) (storesSlot (writerAccess panel (panel .writer)))
+storesNow panel answer writerStep = both (not (isRefused answer)) (storesSlot (writerAccess panel (panel .writer .work)))
 
 -- the call is the last step of the writer's operation
 unfoldable pub endsNow : Answer → Role → Bool
@@ -145,14 +145,10 @@ begunReader point = record { point = point; steps = 0; moments = []; words = [] 
 unfoldable pub wordGiven : Answer → List ℕ
 wordGiven started = []
 wordGiven underway = []
-wordGiven (lookedUp value) = []
-wordGiven (placed slot index) = []
-wordGiven (changed value) = []
-wordGiven (removed reach) = []
-wordGiven (endedWith n) = []
+wordGiven (ended ending) = []
 wordGiven (walked word) = word ∷ []
 wordGiven (walkedLast word) = word ∷ []
-wordGiven (givenAgain answer) = []
+wordGiven (givenAgain ending) = []
 wordGiven (gives values) = []
 wordGiven (refused n) = []
 
@@ -181,10 +177,28 @@ readerNow answer rows (readerStep reader) n notes =
 readerNow answer rows (writerStart operation command) n notes = witnessed notes rows
 readerNow answer rows writerStep n notes = witnessed notes rows
 
--- commands with the answer that ends their change
-unfoldable pub givenTo : List Sent → Answer → List Given
-givenTo [] answer = []
-givenTo (sent ∷ rest) answer = record { sent = sent; answer = answer } ∷ givenTo rest answer
+-- commands with the answer that their change gave
+unfoldable pub givenTo : List Sent → Ending → List Given
+givenTo [] ending = []
+givenTo (sent ∷ rest) ending = record { sent = sent; answer = ending } ∷ givenTo rest ending
+
+-- the commands whose change a step of the writer ends
+unfoldable pub endedBy : List Sent → Answer → List Given
+endedBy command started = []
+endedBy command underway = []
+endedBy command (ended ending) = givenTo command ending
+endedBy command (walked word) = []
+endedBy command (walkedLast word) = []
+endedBy command (givenAgain ending) = []
+endedBy command (gives values) = []
+endedBy command (refused n) = []
+
+-- the commands whose change the call ends
+unfoldable pub endedNow : List Sent → Answer → Role → List Given
+endedNow command answer (readerStart reader point) = []
+endedNow command answer (readerStep reader) = []
+endedNow command answer (writerStart operation own) = []
+endedNow command answer writerStep = endedBy command answer
 
 -- the world after a call that has come to this
 unfoldable pub noted : World → Role → Outcome → World
@@ -196,7 +210,7 @@ noted world role after =
       writer = writerNow world (after .answer) role;
       readers = λ (n : ℕ). readerNow (after .answer) (rowsNow world (after .answer) role) role n (world .readers n);
       acts = cond (storesNow (world .panel) (after .answer) role) (world .writer .command ++ world .acts) (world .acts);
-      ended = cond (endsNow (after .answer) role) (givenTo (world .writer .command) (after .answer) ++ world .ended) (world .ended);
+      ended = endedNow (world .writer .command) (after .answer) role ++ world .ended;
     }
 
 -- what a call comes to in this world: `applied`, which the contract of the code's `apply` cites
@@ -214,7 +228,7 @@ freshWorld m k =
       panel = freshRecord m k;
       slots = replicate m 0;
       rows = [];
-      writer = record { asked = nothing; command = []; steps = 0; feeds = 0; told = started };
+      writer = record { asked = nothing; command = []; steps = 0; feeds = 0; told = endedWith 7 };
       readers = λ (n : ℕ). begunReader 0;
       acts = [];
       ended = [];

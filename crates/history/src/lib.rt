@@ -6,15 +6,14 @@ ghost use mathlib.Core.Path.{_≡_};
 ghost use Rattle.answers.specs.Answers.{paperCall, outcome};
 ghost use Rattle.history.specs.Calls.{applied};
 use crate::outcomes::entered;
-use crate::outcomes::read;
 use crate::outcomes::started;
-use crate::outcomes::written;
-use answers::CallAnswer;
+use crate::outcomes::stepped;
+use answers::CallOutcome;
 use command::start_command;
+use reader_starts::start_lookup;
+use reader_starts::start_walk;
 use reader_step::step_reader;
 use record::Record;
-use table::start_lookup;
-use table::start_walk;
 use writer::start_change;
 use writer::start_put;
 use writer::start_removal;
@@ -32,12 +31,6 @@ pub enum Call {
     StepWriter,
 }
 
-// What a call leaves besides the slots: the record, and the answer.
-pub struct CallOutcome {
-    pub panel: Record,
-    pub answer: CallAnswer,
-}
-
 // Carries out a call. A command takes the frame lent; the other calls do not look at it.
 pub fn apply(panel: Record, slots: &mut [u64], call: Call, frame: &[u8]) -> CallOutcome
     ensures { λ r. ⌜ outcome (r .panel) (now (slots .exit)) (paperCall (r .answer)) ≡ applied panel (now (slots .entry)) call (now (frame .entry)) ⌝ }
@@ -45,13 +38,13 @@ pub fn apply(panel: Record, slots: &mut [u64], call: Call, frame: &[u8]) -> Call
     match call {
         Call::StartLookup { reader, point } => started(start_lookup(panel, slots, reader, point)),
         Call::StartWalk { reader } => started(start_walk(panel, slots, reader)),
-        Call::StepReader { reader } => read(step_reader(panel, slots, reader)),
+        Call::StepReader { reader } => stepped(step_reader(panel, slots, reader)),
         Call::StartPut { point, value } => started(start_put(panel, slots, point, value)),
         Call::StartChange { point, keep, flip } => {
             started(start_change(panel, slots, point, keep, flip))
         }
         Call::StartRemoval { point } => started(start_removal(panel, slots, point)),
         Call::StartCommand => entered(start_command(panel, slots, frame)),
-        Call::StepWriter => written(step_writer(panel, slots)),
+        Call::StepWriter => stepped(step_writer(panel, slots)),
     }
 }

@@ -2,17 +2,15 @@
 ghost use Prim.Native.Nat.{ℕ};
 ghost use mathlib.Core.List.{List};
 ghost use mathlib.Core.Path.{_≡_};
-ghost use Rattle.answers.specs.Answers.{paperStart, paperEntry, paperReader, paperWriter, paperCall, outcome};
-use crate::CallOutcome;
+ghost use Rattle.answers.specs.Answers.{paperStart, paperEntry, paperStep, paperCall, outcome};
 use answers::CallAnswer;
+use answers::CallOutcome;
 use answers::EntryAnswer;
-use answers::ReaderAnswer;
+use answers::EntryOutcome;
 use answers::StartAnswer;
-use answers::WriterAnswer;
-use command::EntryOutcome;
-use reader_step::ReaderOutcome;
-use table::StartOutcome;
-use writer::WriterOutcome;
+use answers::StartOutcome;
+use answers::StepAnswer;
+use answers::StepOutcome;
 
 fn of_start(answer: StartAnswer) -> CallAnswer
     ensures { λ r. ⌜ paperCall r ≡ paperStart answer ⌝ }
@@ -33,30 +31,12 @@ fn of_entry(answer: EntryAnswer) -> CallAnswer
     }
 }
 
-fn of_reader(answer: ReaderAnswer) -> CallAnswer
-    ensures { λ r. ⌜ paperCall r ≡ paperReader answer ⌝ }
+fn of_step(answer: StepAnswer) -> CallAnswer
+    ensures { λ r. ⌜ paperCall r ≡ paperStep answer ⌝ }
 {
     match answer {
-        ReaderAnswer::Underway => CallAnswer::Underway,
-        ReaderAnswer::Found(value) => CallAnswer::LookedUp(value),
-        ReaderAnswer::Unknown => CallAnswer::Unknown,
-        ReaderAnswer::Word(word) => CallAnswer::Walked(word),
-        ReaderAnswer::LastWord(word) => CallAnswer::WalkedLast(word),
-        ReaderAnswer::Refused(refusal) => CallAnswer::Refused(refusal),
-    }
-}
-
-fn of_writer(answer: WriterAnswer) -> CallAnswer
-    ensures { λ r. ⌜ paperCall r ≡ paperWriter answer ⌝ }
-{
-    match answer {
-        WriterAnswer::Underway => CallAnswer::Underway,
-        WriterAnswer::Placed(spot) => CallAnswer::Placed(spot),
-        WriterAnswer::Changed(value) => CallAnswer::Changed(value),
-        WriterAnswer::Removed(reach) => CallAnswer::Removed(reach),
-        WriterAnswer::NoPerch => CallAnswer::NoPerch,
-        WriterAnswer::Unknown => CallAnswer::Unknown,
-        WriterAnswer::Refused(refusal) => CallAnswer::Refused(refusal),
+        StepAnswer::Stepped(result) => CallAnswer::Stepped(result),
+        StepAnswer::Refused(refusal) => CallAnswer::Refused(refusal),
     }
 }
 
@@ -84,26 +64,14 @@ pub(crate) fn entered(left: EntryOutcome) -> CallOutcome
     }
 }
 
-// The same of a reader's step.
-pub(crate) fn read(left: ReaderOutcome) -> CallOutcome
-    ensures { λ r. ⌜ ((slots : List ℕ) → outcome (r .panel) slots (paperCall (r .answer)) ≡ outcome (left .panel) slots (paperReader (left .answer))) ⌝ }
+// The same of a step.
+pub(crate) fn stepped(left: StepOutcome) -> CallOutcome
+    ensures { λ r. ⌜ ((slots : List ℕ) → outcome (r .panel) slots (paperCall (r .answer)) ≡ outcome (left .panel) slots (paperStep (left .answer))) ⌝ }
 {
     let panel = left.panel;
     let answer = left.answer;
     CallOutcome {
         panel: panel,
-        answer: of_reader(answer),
-    }
-}
-
-// The same of the writer's step.
-pub(crate) fn written(left: WriterOutcome) -> CallOutcome
-    ensures { λ r. ⌜ ((slots : List ℕ) → outcome (r .panel) slots (paperCall (r .answer)) ≡ outcome (left .panel) slots (paperWriter (left .answer))) ⌝ }
-{
-    let panel = left.panel;
-    let answer = left.answer;
-    CallOutcome {
-        panel: panel,
-        answer: of_writer(answer),
+        answer: of_step(answer),
     }
 }

@@ -2,18 +2,15 @@
 -- Each is what the generated modules have of the types.
 use Rattle.answers.proofs.EntryAnswer as EntryAnswer
 use Rattle.answers.proofs.EntryAnswer.Laws as EntryAnswer′
-use Rattle.answers.proofs.ReaderAnswer as ReaderAnswer
-use Rattle.answers.proofs.ReaderAnswer.Laws as ReaderAnswer′
+use Rattle.answers.proofs.EntryOutcome as EntryOutcome
 use Rattle.answers.proofs.StartAnswer as StartAnswer
 use Rattle.answers.proofs.StartAnswer.Laws as StartAnswer′
-use Rattle.answers.proofs.WriterAnswer as WriterAnswer
-use Rattle.answers.proofs.WriterAnswer.Laws as WriterAnswer′
-use Rattle.command.proofs.EntryOutcome as EntryOutcome
-use Rattle.reader_step.proofs.ReaderOutcome as ReaderOutcome
+use Rattle.answers.proofs.StartOutcome as StartOutcome
+use Rattle.answers.proofs.StepAnswer as StepAnswer
+use Rattle.answers.proofs.StepAnswer.Laws as StepAnswer′
+use Rattle.answers.proofs.StepOutcome as StepOutcome
 use Rattle.record.proofs.Record as Record
 use Rattle.record.proofs.Record.Laws as Record′
-use Rattle.table.proofs.starts.StartOutcome as StartOutcome
-use Rattle.writer.proofs.step.WriterOutcome as WriterOutcome
 use Rattle.in_place.proofs.Outcome.{State, Answer, Outcome}
 
 abbrev panel : State
@@ -25,17 +22,11 @@ start-answer = record { type = StartAnswer.the-type; laws = StartAnswer′.the-l
 abbrev pub start-outcome : Outcome
 start-outcome = record { states = panel; answers = start-answer; name = StartOutcome.the-type .name; D = StartOutcome.the-type .D; state = λ r. r .panel; answer = λ r. r .answer; one = StartOutcome.the-type .to-one }
 
-abbrev reader-answer : Answer
-reader-answer = record { type = ReaderAnswer.the-type; laws = ReaderAnswer′.the-laws; few = tt; lowers = ReaderAnswer′.lowers; plain = ReaderAnswer′.the-plain }
+abbrev step-answer : Answer
+step-answer = record { type = StepAnswer.the-type; laws = StepAnswer′.the-laws; few = tt; lowers = StepAnswer′.lowers; plain = StepAnswer′.the-plain }
 
-abbrev pub reader-outcome : Outcome
-reader-outcome = record { states = panel; answers = reader-answer; name = ReaderOutcome.the-type .name; D = ReaderOutcome.the-type .D; state = λ r. r .panel; answer = λ r. r .answer; one = ReaderOutcome.the-type .to-one }
-
-abbrev writer-answer : Answer
-writer-answer = record { type = WriterAnswer.the-type; laws = WriterAnswer′.the-laws; few = tt; lowers = WriterAnswer′.lowers; plain = WriterAnswer′.the-plain }
-
-abbrev pub writer-outcome : Outcome
-writer-outcome = record { states = panel; answers = writer-answer; name = WriterOutcome.the-type .name; D = WriterOutcome.the-type .D; state = λ r. r .panel; answer = λ r. r .answer; one = WriterOutcome.the-type .to-one }
+abbrev pub step-outcome : Outcome
+step-outcome = record { states = panel; answers = step-answer; name = StepOutcome.the-type .name; D = StepOutcome.the-type .D; state = λ r. r .panel; answer = λ r. r .answer; one = StepOutcome.the-type .to-one }
 
 abbrev entry-answer : Answer
 entry-answer = record { type = EntryAnswer.the-type; laws = EntryAnswer′.the-laws; few = tt; lowers = EntryAnswer′.lowers; plain = EntryAnswer′.the-plain }

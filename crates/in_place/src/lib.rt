@@ -1,23 +1,22 @@
 // The calls of document 01 on a record that stays where the main loop keeps it. Each takes the record
 // out, calls the function that takes and gives it by value, and puts the new record back.
 ghost use mathlib.Core.Path.{_≡_};
-ghost use Rattle.answers.specs.Answers.{paperStart, paperEntry, paperReader, paperWriter, outcome};
+ghost use Rattle.answers.specs.Answers.{paperStart, paperEntry, paperStep, outcome};
 ghost use Rattle.reader_step.specs.Reader.{stepReader};
-ghost use Rattle.table.specs.Starts.{startLookup, startWalk};
+ghost use Rattle.reader_starts.specs.Starts.{startLookup, startWalk};
 ghost use Rattle.writer.specs.Starts.{startPut, startChange, startRemoval};
 ghost use Rattle.writer.specs.Step.{stepWriter};
 ghost use Rattle.command.specs.Command.{startCommand};
 use answers::EntryAnswer;
-use answers::ReaderAnswer;
 use answers::StartAnswer;
-use answers::WriterAnswer;
+use answers::StepAnswer;
 use record::Record;
 
 // Starts a reader's lookup of a point.
 pub fn start_lookup(panel: &mut Record, slots: &[u64], reader: u32, point: u32) -> StartAnswer
     ensures { λ r. ⌜ outcome (now (panel .exit)) (now (slots .entry)) (paperStart r) ≡ startLookup (now (panel .entry)) (now (slots .entry)) reader point ⌝ }
 {
-    let after = table::start_lookup(*panel, slots, reader, point);
+    let after = reader_starts::start_lookup(*panel, slots, reader, point);
     *panel = after.panel;
     after.answer
 }
@@ -26,14 +25,14 @@ pub fn start_lookup(panel: &mut Record, slots: &[u64], reader: u32, point: u32) 
 pub fn start_walk(panel: &mut Record, slots: &[u64], reader: u32) -> StartAnswer
     ensures { λ r. ⌜ outcome (now (panel .exit)) (now (slots .entry)) (paperStart r) ≡ startWalk (now (panel .entry)) (now (slots .entry)) reader ⌝ }
 {
-    let after = table::start_walk(*panel, slots, reader);
+    let after = reader_starts::start_walk(*panel, slots, reader);
     *panel = after.panel;
     after.answer
 }
 
 // The next step of a reader's lookup or walk.
-pub fn step_reader(panel: &mut Record, slots: &[u64], reader: u32) -> ReaderAnswer
-    ensures { λ r. ⌜ outcome (now (panel .exit)) (now (slots .entry)) (paperReader r) ≡ stepReader (now (panel .entry)) (now (slots .entry)) reader ⌝ }
+pub fn step_reader(panel: &mut Record, slots: &[u64], reader: u32) -> StepAnswer
+    ensures { λ r. ⌜ outcome (now (panel .exit)) (now (slots .entry)) (paperStep r) ≡ stepReader (now (panel .entry)) (now (slots .entry)) reader ⌝ }
 {
     let after = reader_step::step_reader(*panel, slots, reader);
     *panel = after.panel;
@@ -83,8 +82,8 @@ pub fn start_command(panel: &mut Record, slots: &[u64], bytes: &[u8]) -> EntryAn
 }
 
 // The next step of the writer's put, change or removal.
-pub fn step_writer(panel: &mut Record, slots: &mut [u64]) -> WriterAnswer
-    ensures { λ r. ⌜ outcome (now (panel .exit)) (now (slots .exit)) (paperWriter r) ≡ stepWriter (now (panel .entry)) (now (slots .entry)) ⌝ }
+pub fn step_writer(panel: &mut Record, slots: &mut [u64]) -> StepAnswer
+    ensures { λ r. ⌜ outcome (now (panel .exit)) (now (slots .exit)) (paperStep r) ≡ stepWriter (now (panel .entry)) (now (slots .entry)) ⌝ }
 {
     let after = writer::step_writer(*panel, slots);
     *panel = after.panel;

@@ -1,14 +1,19 @@
 -- Lines that are readable, and lines that are not: what Grammar says of each, by computation.
 use Prim.Native.Nat.{ℕ}
+use Prim.Native.Char.{code}
 use Prim.Native.String.{String}
 use mathlib.Core.Path.{_≡_, refl}
-use mathlib.Core.List.{[], _∷_, map}
+use mathlib.Core.List.{List, [], _∷_, map}
 use lib.ListN.{replicate}
-use Rattle.refusal.specs.Judging.{both, within}
-use Rattle.refusal.specs.Refusals.{codes}
+use Rattle.conditions.specs.Conditions.{both, within}
 use Rattle.line.specs.declared.commands.CommandLine.{CommandLine}
 use Rattle.line.specs.declared.sizes.SizesLine.{SizesLine}
 use Rattle.line.specs.Grammar.{before, fields, digit, allDigits, decimal, isNumber, readNumber, isLetter, sizesLine, putLine, lookupLine, removalLine, sizesOfFields, commandOfFields, readSizes, readCommand}
+
+-- a line's bytes, from its text in ASCII
+abbrev bytes : String → List ℕ
+bytes String.[] = []
+bytes (String._∷_ c text) = code c ∷ bytes text
 
 abbrev sizes : ℕ → ℕ → SizesLine
 sizes m k = SizesLine.Sizes (record { m = m; k = k })
@@ -17,10 +22,10 @@ abbrev put : ℕ → ℕ → CommandLine
 put point value = CommandLine.Put (record { point = point; value = value })
 
 abbrev sizesIn : String → SizesLine
-sizesIn text = readSizes (codes text)
+sizesIn text = readSizes (bytes text)
 
 abbrev commandIn : String → CommandLine
-commandIn text = readCommand (codes text)
+commandIn text = readCommand (bytes text)
 
 pub sizes-read : map sizesIn ("8 4" ∷ "0 4294967295" ∷ []) ≡ sizes 8 4 ∷ sizes 0 4294967295 ∷ []
 unfolding readSizes sizesOfFields sizesLine readNumber isNumber decimal allDigits digit fields before within both

@@ -9,7 +9,7 @@ use native.Mathlib.Omega.{arith}
 use borrow.Author.Tests.{ltb-true, ltb-false, lt-ltb, leb-true, leb-false, le-leb, lt-leb, ne-eqb}
 use lib.Dec.{ltb, leb, eqb}
 use lib.ListN.{length}
-use Rattle.refusal.specs.Judging.{both, within}
+use Rattle.conditions.specs.Conditions.{both, within}
 use Rattle.line.specs.declared.field.Field.{Field}
 use Rattle.line.specs.declared.field.Field.the-variants.{Empty, Letter, Digits, Other}
 use Rattle.line.specs.declared.field.Reading.{Reading}
@@ -79,8 +79,8 @@ digits-step byte bytes later count value hc hv = go (digit byte) (ltb count 10) 
         let large = lt-leb (decimal next bytes) 4294967295 (omega (arith, grows next bytes)) in
         rw (other-stays bytes) (sym (not-third digits few small (decimal next bytes) large))
     go true true true et ef =
-        let moved : count + suc (length bytes) ≡ count + 1 + length bytes = omega arith in
-        rw moved (later (count + 1) next (omega (arith, ltb-true count 10 et)) (leb-true next 4294967295 ef))
+        let afterStep : count + suc (length bytes) ≡ count + 1 + length bytes = omega arith in
+        rw afterStep (later (count + 1) next (omega (arith, ltb-true count 10 et)) (leb-true next 4294967295 ef))
 
 digits-read : (bytes : List ℕ) → DigitsRead bytes
 unfolding fieldFrom allDigits decimal numberOf
@@ -114,8 +114,8 @@ kept-from (byte ∷ bytes) count value digits few = go (digit byte) refl digits 
 
     go : (d : Bool) → digit byte ≡ d → d && allDigits bytes ≡ true → (allDigits bytes ≡ true → Later) → fieldFrom (fieldMore (kept count value) byte) bytes ≡ kept (count + suc (length bytes)) (decimal next bytes)
     go true e rest later =
-        let moved : count + suc (length bytes) ≡ count + 1 + length bytes = omega arith in
-        rw (kept-more count value byte e (omega arith), moved) (later rest)
+        let afterStep : count + suc (length bytes) ≡ count + 1 + length bytes = omega arith in
+        rw (kept-more count value byte e (omega arith), afterStep) (later rest)
     go false e rest later = absurd (false≢true rest)
 
 -- an empty field with up to ten digits more

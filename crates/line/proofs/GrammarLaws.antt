@@ -7,7 +7,7 @@ use mathlib.Core.List.{List, [], _∷_}
 use native.Mathlib.Omega.{arith}
 use lib.Dec.{eqb}
 use lib.ListN.{length}
-use Rattle.refusal.specs.Judging.{both, within}
+use Rattle.conditions.specs.Conditions.{both, within}
 use Rattle.line.specs.declared.field.Field.{Field}
 use Rattle.line.specs.declared.field.Field.the-variants.{Empty}
 use Rattle.line.specs.declared.state.Fields.the-variants.{TooMany}

@@ -11,7 +11,7 @@ use borrow.Author.Tests.{leb-true, leb-false}
 use lib.Dec.{leb, eqb}
 use lib.ListN.{length, getD, take, drop}
 use lib.Seq.{slice, slice-cons, take-all, take-length, drop-drop}
-use Rattle.refusal.specs.Judging.{both, within}
+use Rattle.conditions.specs.Conditions.{both, within}
 use Rattle.line.specs.declared.field.Field.{Field}
 use Rattle.line.specs.declared.field.Field.the-variants.{Empty}
 use Rattle.line.specs.declared.run.Run.{Run}
@@ -72,8 +72,8 @@ part-run (suc room) place ended field (byte ∷ bytes) = go (digit byte) refl (p
 
     go : (d : Bool) → digit byte ≡ d → Later → partOf (record { ended = ended; last = fieldFrom field (read d) }) (place + length (read d)) (drop (length (read d)) (byte ∷ bytes)) ≡ partOf (record { ended = ended; last = field }) place (byte ∷ bytes)
     go true e later =
-        let moved : place + suc n ≡ place + 1 + n = omega arith in
-        rw moved (later ∙ sym (part-digit (record { ended = ended; last = field }) place byte bytes e))
+        let afterStep : place + suc n ≡ place + 1 + n = omega arith in
+        rw afterStep (later ∙ sym (part-digit (record { ended = ended; last = field }) place byte bytes e))
     go false e later = rw (add-zero place)
 
 run-joins : (ended : Fields) (l : List ℕ) (from to : ℕ) (run : Run) → run ≡ runOf from (slice from to l) → partOf (record { ended = ended; last = run .field }) (run .next) (slice (run .next) to l) ≡ partOf (record { ended = ended; last = Empty }) from (slice from to l)
@@ -112,8 +112,8 @@ part-reads line place (byte ∷ bytes) later h = go (eqb byte 10) h (part-reads 
     go : (b : Bool) → not b && noLineEnd bytes ≡ true → Rest → cond b (record { line = line; whole = true; next = place + 1 }) (partOf given (place + 1) (bytes ++ later)) ≡ partOf (lineFrom given bytes) (place + suc (length bytes)) later
     go true none rest = absurd (false≢true none)
     go false none rest =
-        let moved : place + suc (length bytes) ≡ place + 1 + length bytes = omega arith in
-        rw moved (rest none)
+        let afterStep : place + suc (length bytes) ≡ place + 1 + length bytes = omega arith in
+        rw afterStep (rest none)
 
 -- a whole line in a buffer is the line that was given the bytes before the line end
 pub reads-part : (place : ℕ) (bytes later : List ℕ) → noLineEnd bytes ≡ true → partOf lineBegin place (bytes ++ 10 ∷ later) ≡ record { line = lineAfter bytes; whole = true; next = place + length bytes + 1 }

@@ -10,7 +10,7 @@ use borrow.Author.Tests.{leb-true, leb-false}
 use lib.Dec.{leb}
 use lib.ListN.{length, getD, take, length-take, drop-of-length-le}
 use lib.Seq.{slice, slice-cons}
-use Rattle.refusal.proofs.Laws.{within-high}
+use Rattle.conditions.proofs.ConditionLaws.{within-high}
 use Rattle.line.specs.declared.field.Field.{Field}
 use Rattle.line.specs.declared.field.Field.the-variants.{Empty}
 use Rattle.line.specs.Grammar.{digit, allDigits, decimal}

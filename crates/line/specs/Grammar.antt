@@ -4,7 +4,7 @@ use mathlib.Core.Bool.{Bool, true, false, cond, _&&_}
 use mathlib.Core.List.{List, [], _∷_}
 use lib.Dec.{leb, eqb}
 use lib.ListN.{length}
-use Rattle.refusal.specs.Judging.{within}
+use Rattle.conditions.specs.Conditions.{within}
 use Rattle.line.specs.declared.field.Reading.{Reading}
 use Rattle.line.specs.declared.field.Reading.the-variants.{Number, NoNumber}
 use Rattle.line.specs.declared.commands.CommandLine.{CommandLine}

@@ -2,7 +2,7 @@
 ghost use mathlib.Core.Path.{_≡_};
 ghost use Rattle.line.specs.Grammar.{digit};
 ghost use Rattle.line.specs.LineState.{fieldMore, firstByte, digitsMore, digitsField, kept, numberOf, isLetterField};
-use refusal::tests::is_within;
+use conditions::is_within;
 
 pub enum Field {
     Empty,

@@ -8,17 +8,17 @@ use borrow.Author.Tests.{eqb-true, ne-eqb, not-false}
 use lib.Dec.{eqb}
 use lib.ListN.{length, getD}
 use Rattle.refusal.specs.declared.Refusal.{Refusal}
-use Rattle.refusal.specs.Judging.{both, either}
+use Rattle.conditions.specs.Conditions.{both, either}
 use Rattle.refusal.proofs.Laws.{not-refused, number-positive}
 use Rattle.record.specs.declared.Record.{Record}
 use Rattle.record_ranges.specs.Ranges.{inRange}
-use Rattle.answers.specs.Answers.{Answer, started, underway, lookedUp, placed, changed, removed, endedWith, walked, walkedLast, givenAgain, gives, refused, hasEnded, isStarted, isRefused, Outcome, outcome, unlessRefused}
-use Rattle.plain_list.specs.PlainList.{Rows, Told, feed, Shows}
+use Rattle.answers.specs.Answers.{Answer, started, underway, ended, walked, walkedLast, givenAgain, gives, refused, hasEnded, isStarted, isRefused, Outcome, outcome, unlessRefused}
+use Rattle.plain_list.specs.PlainList.{Rows, feed, Shows}
 use Rattle.plain_list.proofs.Agreement.{Agrees, shows}
 use Rattle.plain_rows.specs.Rows.{rowsOf}
-use Rattle.plain_rows.specs.Fed.{operationOf, fedRows}
+use Rattle.plain_rows.specs.Fed.{operationOf, Feeding, answered, fedRows}
 use Rattle.plain_rows.proofs.RoomLaws.{fed-by-panel}
-use Rattle.moves.specs.Memory.{storesSlot}
+use Rattle.effects.specs.Memory.{storesSlot}
 use Rattle.writer.specs.Step.{writerAccess}
 use Rattle.frame.specs.declared.Fields.{Fields}
 use Rattle.frame.specs.declared.Kind.{Kind}
@@ -39,7 +39,7 @@ use Rattle.orders.specs.Kept.{isWriterStep, feedsAfter, NotesKept, Liste
 
 -- a call stores or ends only as a step of the writer
 module _ (panel : Record) (answer : Answer) (frame : List ℕ) where
-  pub stores-by-step : (call : Call) → both (isWriterStep call) (both (not (isRefused answer)) (storesSlot (writerAccess panel (panel .writer)))) ≡ storesNow panel answer (roleOf call frame)
+  pub stores-by-step : (call : Call) → both (isWriterStep call) (both (not (isRefused answer)) (storesSlot (writerAccess panel (panel .writer .work)))) ≡ storesNow panel answer (roleOf call frame)
   unfolding storesNow roleOf both
   stores-by-step (StartLookup reader point) = refl
   stores-by-step (StartWalk reader) = refl
@@ -81,17 +81,13 @@ fed-more false false n e = e
 
 -- a refused step feeds nothing
 refused-feeds : (world : World) (answer : Answer) → isRefused answer ≡ true → feedsNow world answer writerStep ≡ false
-unfolding feedsNow storesNow endsNow isRefused hasEnded both either
+unfolding feedsNow storesNow endsNow both either
 refused-feeds world started e = absurd (false≢true e)
 refused-feeds world underway e = absurd (false≢true e)
-refused-feeds world (lookedUp value) e = absurd (false≢true e)
-refused-feeds world (placed slot index) e = absurd (false≢true e)
-refused-feeds world (changed value) e = absurd (false≢true e)
-refused-feeds world (removed reach) e = absurd (false≢true e)
-refused-feeds world (endedWith n) e = absurd (false≢true e)
+refused-feeds world (ended ending) e = absurd (false≢true e)
 refused-feeds world (walked word) e = absurd (false≢true e)
 refused-feeds world (walkedLast word) e = absurd (false≢true e)
-refused-feeds world (givenAgain answer) e = absurd (false≢true e)
+refused-feeds world (givenAgain ending) e = absurd (false≢true e)
 refused-feeds world (gives values) e = absurd (false≢true e)
 refused-feeds world (refused n) e = refl
 
@@ -132,7 +128,7 @@ module _ (bytes : List ℕ) (allowed : frameRefusal bytes ≡ 0) where
 
 -- a command that was started had such a frame
 started-frame : (panel : Record) (slots bytes : List ℕ) → isStarted (startCommand panel slots bytes .answer) ≡ true → frameRefusal bytes ≡ 0
-unfolding startCommand entryRefusal unlessRefused isStarted
+unfolding startCommand entryRefusal unlessRefused
 started-frame panel slots bytes e =
     not-refused (not (inRange (length slots) panel)) 1 (frameRefusal bytes) (omega arith) (go (entryRefusal (length slots) panel bytes) _ e) .1
   where
@@ -167,12 +163,12 @@ module _ (world : World) (reached : Reached world) (before : PanelState) (slots 
   as-long : length slots ≡ m
   as-long = ap length (keeps .slots-kept) ∙ inv .agrees .whole
 
-  told : fedRows (before .panel .m) (before .panel .k) (operationOf (before .notes .asked)) words places (before .rows) ≡ toldNow world
+  told : fedRows (before .panel .m) (before .panel .k) (operationOf (before .notes .asked)) words places (before .rows) ≡ answered (toldNow world)
   unfolding toldNow
   told =
       ap (λ (panel : Record). fedRows (panel .m) (panel .k) (operationOf (before .notes .asked)) words places (before .rows)) (keeps .panel)
       ∙ fed-by-panel m k words places (before .rows) (operationOf (before .notes .asked)) (world .panel .reach) (world .panel .counts) (world .slots) agrees (keeps .words-length ∙ as-long) (keeps .places-length ∙ as-long)
-      ∙ ap₂ (feed m k) (keeps .notes .asked) (keeps .rows)
+      ∙ ap answered (ap₂ (feed m k) (keeps .notes .asked) (keeps .rows))
 
   -- the slots show the list that is kept
   pub kept-shows : Shows (length slots) slots (rowsOf words places (before .rows))
@@ -209,7 +205,7 @@ module _ (world : World) (reached : Reached world) (before : PanelState) (slots 
     rows-after : cond feeds (fedRows (before .panel .m) (before .panel .k) (operationOf (before .notes .asked)) words places (before .rows) .rows) (rowsOf words places (before .rows)) ≡ rowsNow world answer role
     unfolding rowsNow
     rows-after =
-        ap₂ (λ (b : Bool) (t : Told). cond b (t .rows) (rowsOf words places (before .rows))) feeds-now told
+        ap₂ (λ (b : Bool) (t : Feeding). cond b (t .rows) (rowsOf words places (before .rows))) feeds-now told
         ∙ ap (λ (rows : Rows). cond (feedsNow world answer role) (toldNow world .rows) rows) (keeps .rows)
 
     -- what the notes keep, as the code's contract has it

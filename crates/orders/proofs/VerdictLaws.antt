@@ -8,8 +8,8 @@ use native.Mathlib.Omega.{arith}
 use borrow.Author.Tests.{eqb-true, eqb-false, eq-eqb, ltb-true, lt-ltb}
 use lib.Dec.{eqb, ltb}
 use lib.ListN.{length, getD}
-use Rattle.refusal.specs.Judging.{both, either}
-use Rattle.refusal.proofs.Laws.{both-left, both-right, both-true}
+use Rattle.conditions.specs.Conditions.{both, either}
+use Rattle.conditions.proofs.ConditionLaws.{both-left, both-right, both-true}
 use Rattle.slot_words.specs.Word.{pointOf, valueOf, wordOf}
 use Rattle.plain_list.specs.PlainList.{Rows, isPlace, Each, AtPlace, Shows}
 use Rattle.plain_rows.specs.Rows.{rowsOf}

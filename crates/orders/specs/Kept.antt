@@ -5,7 +5,7 @@ use mathlib.Core.List.{List}
 use mathlib.Core.Path.{_≡_}
 use lib.Dec.{eqb}
 use lib.ListN.{length}
-use Rattle.refusal.specs.Judging.{both, either}
+use Rattle.conditions.specs.Conditions.{both, either}
 use Rattle.record.specs.declared.Record.{Record}
 use Rattle.answers.specs.Answers.{Answer}
 use Rattle.plain_list.specs.PlainList.{Rows}

@@ -1,7 +1,8 @@
 // What an answer tells of the operation.
 ghost use mathlib.Core.Path.{_≡_};
-ghost use Rattle.answers.specs.Answers.{paperCall, hasEnded, isRefused, isStarted};
+ghost use Rattle.answers.specs.Answers.{paperResult, paperCall, hasEnded, isRefused, isStarted};
 use answers::CallAnswer;
+use answers::StepResult;
 
 // A step has ended the operation.
 pub(crate) fn has_ended(answer: CallAnswer) -> bool
@@ -10,16 +11,19 @@ pub(crate) fn has_ended(answer: CallAnswer) -> bool
     match answer {
         CallAnswer::Started => false,
         CallAnswer::GivenAgain(_) => false,
-        CallAnswer::Underway => false,
-        CallAnswer::LookedUp(_) => true,
-        CallAnswer::Placed(_) => true,
-        CallAnswer::Changed(_) => true,
-        CallAnswer::Removed(_) => true,
-        CallAnswer::NoPerch => true,
-        CallAnswer::Unknown => true,
-        CallAnswer::Walked(_) => false,
-        CallAnswer::WalkedLast(_) => true,
+        CallAnswer::Stepped(result) => has_ended_by(result),
         CallAnswer::Refused(_) => false,
+    }
+}
+
+fn has_ended_by(result: StepResult) -> bool
+    ensures { λ r. ⌜ r ≡ hasEnded (paperResult result) ⌝ }
+{
+    match result {
+        StepResult::Underway => false,
+        StepResult::Ended(_) => true,
+        StepResult::Walked(_) => false,
+        StepResult::WalkedLast(_) => true,
     }
 }
 
@@ -30,15 +34,7 @@ pub(crate) fn is_refused(answer: CallAnswer) -> bool
     match answer {
         CallAnswer::Started => false,
         CallAnswer::GivenAgain(_) => false,
-        CallAnswer::Underway => false,
-        CallAnswer::LookedUp(_) => false,
-        CallAnswer::Placed(_) => false,
-        CallAnswer::Changed(_) => false,
-        CallAnswer::Removed(_) => false,
-        CallAnswer::NoPerch => false,
-        CallAnswer::Unknown => false,
-        CallAnswer::Walked(_) => false,
-        CallAnswer::WalkedLast(_) => false,
+        CallAnswer::Stepped(_) => false,
         CallAnswer::Refused(_) => true,
     }
 }
@@ -50,15 +46,7 @@ pub(crate) fn is_started(answer: CallAnswer) -> bool
     match answer {
         CallAnswer::Started => true,
         CallAnswer::GivenAgain(_) => false,
-        CallAnswer::Underway => false,
-        CallAnswer::LookedUp(_) => false,
-        CallAnswer::Placed(_) => false,
-        CallAnswer::Changed(_) => false,
-        CallAnswer::Removed(_) => false,
-        CallAnswer::NoPerch => false,
-        CallAnswer::Unknown => false,
-        CallAnswer::Walked(_) => false,
-        CallAnswer::WalkedLast(_) => false,
+        CallAnswer::Stepped(_) => false,
         CallAnswer::Refused(_) => false,
     }
 }

@@ -1,7 +1,9 @@
 // Answers in document 01's words.
 use crate::output::number;
 use answers::CallAnswer;
+use answers::Ending;
 use answers::Spot;
+use answers::StepResult;
 use record::CommandAnswer;
 use refusal::Refusal;
 use slot_words::word::point_of;
@@ -16,16 +18,28 @@ pub(crate) fn answer_text(filled: usize, out: &mut [u8], answer: CallAnswer) -> 
         CallAnswer::GivenAgain(stored) => {
             stored_text(text(filled, out, b"given again: "), out, stored)
         }
-        CallAnswer::Underway => text(filled, out, b"underway"),
-        CallAnswer::LookedUp(value) => number(text(filled, out, b"value"), out, value),
-        CallAnswer::Placed(spot) => placed_text(filled, out, spot),
-        CallAnswer::Changed(value) => new_value_text(filled, out, value),
-        CallAnswer::Removed(reach) => reach_text(filled, out, reach),
-        CallAnswer::NoPerch => refusal_text(filled, out, Refusal::NoPerch),
-        CallAnswer::Unknown => refusal_text(filled, out, Refusal::Unknown),
-        CallAnswer::Walked(word) => slot_text(filled, out, word),
-        CallAnswer::WalkedLast(word) => slot_text(text(filled, out, b"last: "), out, word),
+        CallAnswer::Stepped(result) => result_text(filled, out, result),
         CallAnswer::Refused(refusal) => refused_text(filled, out, refusal),
+    }
+}
+
+fn result_text(filled: usize, out: &mut [u8], result: StepResult) -> usize {
+    match result {
+        StepResult::Underway => text(filled, out, b"underway"),
+        StepResult::Ended(ending) => ending_text(filled, out, ending),
+        StepResult::Walked(word) => slot_text(filled, out, word),
+        StepResult::WalkedLast(word) => slot_text(text(filled, out, b"last: "), out, word),
+    }
+}
+
+fn ending_text(filled: usize, out: &mut [u8], ending: Ending) -> usize {
+    match ending {
+        Ending::LookedUp(value) => number(text(filled, out, b"value"), out, value),
+        Ending::Placed(spot) => placed_text(filled, out, spot),
+        Ending::Changed(value) => new_value_text(filled, out, value),
+        Ending::Removed(reach) => reach_text(filled, out, reach),
+        Ending::NoPerch => refusal_text(filled, out, Refusal::NoPerch),
+        Ending::Unknown => refusal_text(filled, out, Refusal::Unknown),
     }
 }
 

@@ -8,7 +8,7 @@ ghost use Rattle.answers.specs.Answers.{paperCall, isStarted};
 ghost use Rattle.plain_list.specs.PlainList.{change as changeFed, Operation as FedOperation, Told};
 ghost use Rattle.plain_rows.specs.Rows.{rowsOf};
 ghost use Rattle.plain_rows.specs.Fed.{operationOf, fedRows};
-ghost use Rattle.moves.specs.Memory.{storesSlot};
+ghost use Rattle.effects.specs.Memory.{storesSlot};
 ghost use Rattle.change.specs.Change.{actionMasks};
 ghost use Rattle.command.specs.declared.Sent.{Sent};
 ghost use Rattle.command.specs.Command.{sentIn, frameRefusal};
@@ -20,14 +20,14 @@ use crate::answer_kinds::is_refused;
 use crate::answer_kinds::is_started;
 use answers::CallAnswer;
 use change::action_masks;
+use conditions::both_hold;
+use conditions::either_holds;
+use effects::memory::WriterAccess;
 use frame::ReadAnswer;
 use history::Call;
-use moves::memory::WriterAccess;
 use plain_rows::Operation;
 use plain_rows::feed;
 use record::Record;
-use refusal::tests::both_hold;
-use refusal::tests::either_holds;
 use writer::writer_access;
 
 // What is noted of the writer's operation.
@@ -51,7 +51,8 @@ pub(crate) fn feeds_now(panel: Record, fed: bool, answer: CallAnswer, call: Call
 fn stores_now(panel: Record, answer: CallAnswer, call: Call) -> bool
     ensures { λ r. ⌜ ((frame : List ℕ) → r ≡ storesNow panel (paperCall answer) (roleOf call frame)) ⌝ }
 {
-    let work = panel.writer;
+    let writer = panel.writer;
+    let work = writer.work;
     let stores = both_hold(!is_refused(answer), stores_slot(writer_access(panel, work)));
     both_hold(is_writer_step(call), stores)
 }

@@ -14,8 +14,8 @@ use crate::reading::is_comment;
 use crate::reading::order_of;
 use crate::showing::show;
 use answers::FreshAnswer;
+use fresh_panel::fresh;
 use history::Call;
-use table::fresh;
 
 pub(crate) struct Run {
     pub state: PanelState,

@@ -6,8 +6,8 @@ ghost use lib.ListN.{length, getD};
 ghost use Rattle.plain_list.specs.PlainList.{isPlace, Shows};
 ghost use Rattle.plain_rows.specs.Rows.{rowsOf};
 ghost use Rattle.orders.specs.Verdict.{Decides, stands as standsThere, rowsStand, othersEmpty};
-use refusal::tests::both_hold;
-use refusal::tests::either_holds;
+use conditions::both_hold;
+use conditions::either_holds;
 
 // "the slots are 0 except for each row's word at its place"
 pub(crate) fn do_show(slots: &[u64], words: &[u64], places: &[u32], rows: usize) -> bool

@@ -6,7 +6,7 @@ use crate::rows_shown::do_show;
 use crate::rows_shown::is_place;
 use crate::rows_shown::row_at;
 use crate::rows_shown::word_at;
-use refusal::tests::both_hold;
+use conditions::both_hold;
 use text_buffer::decimal;
 use text_buffer::line_end;
 use text_buffer::text;

@@ -8,14 +8,14 @@ use mathlib.Core.List.{List, [], _∷_}
 use native.Mathlib.Omega.{arith}
 use native.Mathlib.Decide.{ℕ-discrete}
 use lib.ListN.{getD, length}
-use Rattle.refusal.proofs.Laws.{within-low}
+use Rattle.conditions.proofs.ConditionLaws.{within-low}
 use Rattle.hash.proofs.Laws.{position-below}
 use Rattle.slot_words.specs.Word.{pointOf, valueOf, wordOf}
 use Rattle.slot_words.specs.Taken.{takenSlots}
 use Rattle.slot_words.proofs.WordLaws.{word-point, word-value, word-some, word-tells}
 use Rattle.slot_words.proofs.TakenLaws.{taken-room}
 use Rattle.record.specs.Parts.{numbered}
-use Rattle.work_ranges.specs.WorkRanges.{validPoint}
+use Rattle.slot_words.specs.Points.{validPoint}
 use Rattle.plain_list.specs.PlainList.{Rows, present, entryOf, withValue, isPlace, indexOf, largestIndex, Each, AtPlace, Shows}
 use Rattle.plain_list.proofs.RowLaws.{entry-same, entry-behind, value-same, value-other, Distinct, At, found-place, place-found}
 use Rattle.plain_list.proofs.IndexLaws.{Lowest, index-is, countIndex, count-high, Indexed, largest-found, largest-bound}

@@ -16,7 +16,7 @@ use Rattle.slot_words.proofs.WordLaws.{word-some}
 use Rattle.slot_words.proofs.TakenLaws.{taken-replaced, taken-added, taken-emptied}
 use Rattle.record.specs.Parts.{numbered, withNumbered}
 use Rattle.record.proofs.Numbered.{replaced-length, replaced-same, replaced-other}
-use Rattle.work_ranges.specs.WorkRanges.{validPoint}
+use Rattle.slot_words.specs.Points.{validPoint}
 use Rattle.plain_list.specs.PlainList.{Row, row, Rows, absent, present, entryOf, withValue, without, indexOf}
 use Rattle.plain_list.proofs.RowLaws.{present≢absent, entry-same, entry-other, value-same, value-other, value-length, gone, left, without-length, distinct-value, distinct-without, At, at-value, at-behind}
 use Rattle.plain_list.proofs.IndexLaws.{Lowest, index-is, countIndex, count-value, count-without}

@@ -9,7 +9,7 @@ use native.Mathlib.Decide.{ℕ-discrete}
 use lib.Dec.{eqb}
 use lib.ListN.{length}
 use borrow.Author.Tests.{eqb-true, eq-eqb, ne-eqb}
-use Rattle.refusal.specs.Judging.{either}
+use Rattle.conditions.specs.Conditions.{either}
 use Rattle.plain_list.specs.PlainList.{Row, Rows, absent, present, entryOf, withValue, without, isPlace}
 
 -- an entry is one thing only

@@ -6,10 +6,11 @@ use mathlib.Core.Path.{_≡_}
 use lib.Bits.{bitAnd, bitXor}
 use lib.Dec.{eqb}
 use lib.ListN.{length, getD}
-use Rattle.refusal.specs.Judging.{either, orElse}
+use Rattle.conditions.specs.Conditions.{either}
+use Rattle.refusal.specs.Judging.{orElse}
 use Rattle.hash.specs.Position.{positionOf}
 use Rattle.slot_words.specs.Word.{wordOf}
-use Rattle.answers.specs.Answers.{Answer, lookedUp, placed, changed, removed, endedWith, refused}
+use Rattle.answers.specs.Answers.{Ending, lookedUp, placed, changed, removed, endedWith}
 
 -- "rows of point, value and place"
 pub record Row : Type 0 where
@@ -72,10 +73,10 @@ largestIndex m k (r ∷ rows) = max (indexOf m k (r .point) (r .place)) (largest
 -- what the list becomes, and what it answers
 pub record Told : Type 0 where
   pub rows : Rows
-  pub answer : Answer
+  pub answer : Ending
 
 -- the two
-abbrev pub tells : Rows → Answer → Told
+abbrev pub tells : Rows → Ending → Told
 tells rows answer = record { rows = rows; answer = answer }
 
 -- "No row: one is added, its place the first of positions 1 to k that is no row's place; if none, 6. Answer: the place, and the row's *index*"
@@ -114,12 +115,12 @@ unfoldable pub removeRow : ℕ → ℕ → ℕ → Rows → Told
 removeRow m k point rows = removeEntry m k point rows (entryOf point rows)
 
 -- "the row's value, or 7"
-unfoldable pub lookupEntry : Entry → Answer
+unfoldable pub lookupEntry : Entry → Ending
 lookupEntry absent = endedWith 7
 lookupEntry (present value place) = lookedUp value
 
 -- "Lookup"
-unfoldable pub lookupRow : ℕ → Rows → Answer
+unfoldable pub lookupRow : ℕ → Rows → Ending
 lookupRow point rows = lookupEntry (entryOf point rows)
 
 -- an operation with its arguments: "each put, change and removal"
@@ -129,9 +130,9 @@ pub data Operation : Type 0 where
   change : (point keep flip : ℕ) → Operation
   removal : (point : ℕ) → Operation
 
--- "It is fed the arguments of each put, change and removal that is started"
+-- "It is fed the arguments of each put, change and removal that is started"; `nothing` is about no point, and so tells 7 like an operation whose point has no row
 unfoldable pub feed : ℕ → ℕ → Operation → Rows → Told
-feed m k nothing rows = tells rows (refused 5)
+feed m k nothing rows = tells rows (endedWith 7)
 feed m k (put point value) rows = putRow m k point value rows
 feed m k (change point keep flip) rows = changeRow point keep flip rows
 feed m k (removal point) rows = removeRow m k point rows

@@ -10,11 +10,11 @@ use lib.Dec.{leb}
 use lib.ListN.{length, getD}
 use lib.Seq.{ext-getD}
 use Rattle.slot_words.specs.Word.{pointOf, valueOf}
-use Rattle.answers.proofs.AnswerLaws.{call-tells}
-use Rattle.plain_list.specs.PlainList.{Row, Told}
+use Rattle.answers.proofs.AnswerLaws.{whole-tells}
+use Rattle.plain_list.specs.PlainList.{Row}
 use Rattle.plain_rows.specs.declared.Fed.{Fed}
 use Rattle.plain_rows.specs.Rows.{rowAt, rowsOf, SameFrom}
-use Rattle.plain_rows.specs.Fed.{Feeds}
+use Rattle.plain_rows.specs.Fed.{Feeding, Feeds}
 use Rattle.plain_rows.proofs.RowsLaws.{rows-length}
 
 -- a word is told by its point and its value
@@ -42,12 +42,12 @@ slice-same count l l₁ l₂ s₁ s₂ below = ext-getD 0 l₁ l₂ (s₁ .size 
     go i true e = let h = leb-true count i e in s₁ .rest i h ∙ sym (s₂ .rest i h)
     go i false e = below i (leb-false count i e)
 
-module _ (words places words₁ places₁ words₂ places₂ : List ℕ) (fed₁ fed₂ : Fed) (told : Told) where
-  pub decided : Feeds words places words₁ places₁ fed₁ told → Feeds words places words₂ places₂ fed₂ told → (words₁ ≡ words₂) × (places₁ ≡ places₂) × (fed₁ ≡ fed₂)
+module _ (words places words₁ places₁ words₂ places₂ : List ℕ) (fed₁ fed₂ : Fed) (after : Feeding) where
+  pub decided : Feeds words places words₁ places₁ fed₁ after → Feeds words places words₂ places₂ fed₂ after → (words₁ ≡ words₂) × (places₁ ≡ places₂) × (fed₁ ≡ fed₂)
   decided a b =
       let same = a .shown ∙ sym (b .shown) in
-      let rows : rowsOf words₁ places₁ (fed₁ .count) ≡ rowsOf words₂ places₂ (fed₂ .count) = ap (λ (x : Told). x .rows) same in
-      let answer = call-tells (fed₁ .answer) (fed₂ .answer) (ap (λ (x : Told). x .answer) same) in
+      let rows : rowsOf words₁ places₁ (fed₁ .count) ≡ rowsOf words₂ places₂ (fed₂ .count) = ap (λ (x : Feeding). x .rows) same in
+      let answer = whole-tells (fed₁ .answer) (fed₂ .answer) (ap (λ (x : Feeding). x .answer) same) in
       let count : fed₁ .count ≡ fed₂ .count = sym (rows-length words₁ places₁ (fed₁ .count)) ∙ ap length rows ∙ rows-length words₂ places₂ (fed₂ .count) in
       let told-row : (i : ℕ) → i < fed₁ .count → rowAt words₁ places₁ i ≡ rowAt words₂ places₂ i = λ i h. row-told words₁ places₁ words₂ places₂ (fed₁ .count) i (rows ∙ ap (rowsOf words₂ places₂) (sym count)) h in (
         slice-same (fed₁ .count) words words₁ words₂ (a .words-stay) (rw count (b .words-stay))

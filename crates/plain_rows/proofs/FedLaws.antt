@@ -8,16 +8,16 @@ use native.Mathlib.Omega.{arith}
 use borrow.Author.Tests.{ltb-true, leb-true, le-leb}
 use lib.Dec.{leb, ltb}
 use lib.ListN.{length, set}
-use Rattle.refusal.specs.Judging.{both}
-use Rattle.refusal.proofs.Laws.{both-left, both-right, both-true}
+use Rattle.conditions.specs.Conditions.{both}
+use Rattle.conditions.proofs.ConditionLaws.{both-left, both-right, both-true}
 use Rattle.hash.specs.Position.{positionOf}
 use Rattle.slot_words.specs.Word.{wordOf}
 use Rattle.slot_words.proofs.WordLaws.{word-point, word-value}
-use Rattle.answers.specs.Answers.{Answer, placed, refused, paperCall}
+use Rattle.answers.specs.Answers.{Ending, placed, ended, refused, paperWhole}
 use Rattle.plain_list.specs.PlainList.{Row, row, Rows, withValue, without, indexOf, Told, tells, addRow}
 use Rattle.plain_rows.specs.declared.Fed.{Fed}
 use Rattle.plain_rows.specs.Rows.{rowsOf, hasRoom, Room, SameFrom, Revalues, Removes}
-use Rattle.plain_rows.specs.Fed.{ifRoom, inSlices, Feeds}
+use Rattle.plain_rows.specs.Fed.{answered, ifRoom, inSlices, Feeds}
 use Rattle.plain_rows.proofs.RowsLaws.{rows-length}
 use Rattle.plain_rows.proofs.StoreLaws.{same-untouched, same-stored, row-stored}
 
@@ -48,7 +48,7 @@ module _ (words places : List ℕ) (count : ℕ) where
       }
 
 module _ (words places : List ℕ) (count : ℕ) (room : Room words places count) where
-  pub in-room : (told : Told) → Room words places (length (told .rows)) → inSlices words places count told ≡ told
+  pub in-room : (told : Told) → Room words places (length (told .rows)) → inSlices words places count told ≡ answered told
   unfolding inSlices ifRoom
   in-room told room′ =
       rw
@@ -56,27 +56,27 @@ module _ (words places : List ℕ) (count : ℕ) (room : Room words places count
 
 module _ (words places : List ℕ) (count : ℕ) (room : Room words places count) (fed : Fed) (told : Told) where
   -- the slices show what the list was told, so there is room for it
-  pub feeds : (words′ places′ : List ℕ) (count′ : ℕ) (answer : Answer) → Room words places count′ → fed .count ≡ count′ → paperCall (fed .answer) ≡ answer → told ≡ tells (rowsOf words′ places′ count′) answer → SameFrom count′ words words′ → SameFrom count′ places places′ → Feeds words places words′ places′ fed (inSlices words places count told)
+  pub feeds : (words′ places′ : List ℕ) (count′ : ℕ) (answer : Ending) → Room words places count′ → fed .count ≡ count′ → paperWhole (fed .answer) ≡ ended answer → told ≡ tells (rowsOf words′ places′ count′) answer → SameFrom count′ words words′ → SameFrom count′ places places′ → Feeds words places words′ places′ fed (inSlices words places count told)
   feeds words′ places′ count′ answer room′ n a t w p =
       let size : length (told .rows) ≡ count′ = ap (λ (x : Told). length (x .rows)) t ∙ rows-length words′ places′ count′ in
       record {
-        shown = rw (n, a, in-room words places count room told (rw size room′)) (sym t);
+        shown = rw (n, a, in-room words places count room told (rw size room′)) (ap answered (sym t));
         words-stay = rw n w;
         places-stay = rw n p;
       }
 
   -- nothing is stored
-  pub feeds-nothing : (answer : Answer) → fed .count ≡ count → paperCall (fed .answer) ≡ answer → told ≡ tells (rowsOf words places count) answer → Feeds words places words places fed (inSlices words places count told)
+  pub feeds-nothing : (answer : Ending) → fed .count ≡ count → paperWhole (fed .answer) ≡ ended answer → told ≡ tells (rowsOf words places count) answer → Feeds words places words places fed (inSlices words places count told)
   feeds-nothing answer n a t =
       feeds words places count answer room n a t (same-untouched count words) (same-untouched count places)
 
   -- the point's row gets the value
-  pub feeds-value : (words′ : List ℕ) (point value : ℕ) (answer : Answer) → Revalues words words′ count point value → fed .count ≡ count → paperCall (fed .answer) ≡ answer → told ≡ tells (withValue point value (rowsOf words places count)) answer → Feeds words places words′ places fed (inSlices words places count told)
+  pub feeds-value : (words′ : List ℕ) (point value : ℕ) (answer : Ending) → Revalues words words′ count point value → fed .count ≡ count → paperWhole (fed .answer) ≡ ended answer → told ≡ tells (withValue point value (rowsOf words places count)) answer → Feeds words places words′ places fed (inSlices words places count told)
   feeds-value words′ point value answer r n a t =
       feeds words′ places count answer room n a (t ∙ ap (λ (rows : Rows). tells rows answer) (sym (r .shown places))) (r .words-stay) (same-untouched count places)
 
   -- a row is added
-  pub feeds-row : (point value place : ℕ) (answer : Answer) → value < 4294967296 → Room words places (count + 1) → fed .count ≡ count + 1 → paperCall (fed .answer) ≡ answer → told ≡ tells (row point value place ∷ rowsOf words places count) answer → Feeds words places (set words count (wordOf point value)) (set places count place) fed (inSlices words places count told)
+  pub feeds-row : (point value place : ℕ) (answer : Ending) → value < 4294967296 → Room words places (count + 1) → fed .count ≡ count + 1 → paperWhole (fed .answer) ≡ ended answer → told ≡ tells (row point value place ∷ rowsOf words places count) answer → Feeds words places (set words count (wordOf point value)) (set places count place) fed (inSlices words places count told)
   feeds-row point value place answer fits room′ n a t =
       let word = wordOf point value in
       let stored = row-stored words places count word place (omega (arith, room′ .in-words)) (omega (arith, room′ .in-places)) in
@@ -86,7 +86,7 @@ module _ (words places : List ℕ) (count : ℕ) (room : Room words places count
       (same-stored places places count place (same-untouched count places))
 
   -- the row goes
-  pub feeds-without : (words′ places′ : List ℕ) (left point : ℕ) (answer : Answer) → Removes words places words′ places′ count left point → fed .count ≡ left → paperCall (fed .answer) ≡ answer → told ≡ tells (without point (rowsOf words places count)) answer → Feeds words places words′ places′ fed (inSlices words places count told)
+  pub feeds-without : (words′ places′ : List ℕ) (left point : ℕ) (answer : Ending) → Removes words places words′ places′ count left point → fed .count ≡ left → paperWhole (fed .answer) ≡ ended answer → told ≡ tells (without point (rowsOf words places count)) answer → Feeds words places words′ places′ fed (inSlices words places count told)
   feeds-without words′ places′ left point answer r n a t =
       let room′ : Room words places left = record { in-words = omega (arith, r .fewer, room .in-words); in-places = omega (arith, r .fewer, room .in-places) } in
       feeds words′ places′ left answer room′ n a (t ∙ ap (λ (rows : Rows). tells rows answer) (sym (r .shown))) (r .words-stay) (r .places-stay)
@@ -97,7 +97,7 @@ both-none true = refl
 both-none false = refl
 
 -- there is no room for the rows before, or for those after
-pub misfits : (words places : List ℕ) (count : ℕ) (fed : Fed) (told : Told) → both (hasRoom words places count) (hasRoom words places (length (told .rows))) ≡ false → fed .count ≡ count → paperCall (fed .answer) ≡ refused 1 → Feeds words places words places fed (inSlices words places count told)
+pub misfits : (words places : List ℕ) (count : ℕ) (fed : Fed) (told : Told) → both (hasRoom words places count) (hasRoom words places (length (told .rows))) ≡ false → fed .count ≡ count → paperWhole (fed .answer) ≡ refused 1 → Feeds words places words places fed (inSlices words places count told)
 unfolding inSlices ifRoom
 misfits words places count fed told none n a =
     record {
@@ -107,7 +107,7 @@ misfits words places count fed told none n a =
     }
 
 -- there is no room for the row to be added
-pub misfits-row : (words places : List ℕ) (count : ℕ) (fed : Fed) (told : Told) (added : Row) (answer : Answer) → both (ltb count (length words)) (ltb count (length places)) ≡ false → told ≡ tells (added ∷ rowsOf words places count) answer → fed .count ≡ count → paperCall (fed .answer) ≡ refused 1 → Feeds words places words places fed (inSlices words places count told)
+pub misfits-row : (words places : List ℕ) (count : ℕ) (fed : Fed) (told : Told) (added : Row) (answer : Ending) → both (ltb count (length words)) (ltb count (length places)) ≡ false → told ≡ tells (added ∷ rowsOf words places count) answer → fed .count ≡ count → paperWhole (fed .answer) ≡ refused 1 → Feeds words places words places fed (inSlices words places count told)
 unfolding hasRoom
 misfits-row words places count fed told added answer none t n a =
     let size : length (told .rows) ≡ suc count = ap (λ (x : Told). length (x .rows)) t ∙ ap suc (rows-length words places count) in

@@ -18,7 +18,7 @@ use Rattle.plain_list.specs.PlainList.{Rows, Entry, absent, present, entryOf, w
 use Rattle.plain_list.proofs.Agreement.{Agrees}
 use Rattle.plain_list.proofs.RowLaws.{value-length, At, found-place}
 use Rattle.plain_rows.specs.Rows.{rowsOf, Room}
-use Rattle.plain_rows.specs.Fed.{fedRows}
+use Rattle.plain_rows.specs.Fed.{answered, fedRows}
 use Rattle.plain_rows.proofs.RowsLaws.{rows-length}
 use Rattle.plain_rows.proofs.FedLaws.{in-room}
 
@@ -86,18 +86,18 @@ module _ (m k n : ℕ) (rows : Rows) (few : length rows ≤ n) (fewer : (q : ℕ
 
 module _ (m k : ℕ) (words places : List ℕ) (count : ℕ) (operation : Operation) where
   -- slices of n entries or more, and a list that keeps to n rows
-  within-room : (n : ℕ) → Room words places n → count ≤ n → length (feed m k operation (rowsOf words places count) .rows) ≤ n → fedRows m k operation words places count ≡ feed m k operation (rowsOf words places count)
+  within-room : (n : ℕ) → Room words places n → count ≤ n → length (feed m k operation (rowsOf words places count) .rows) ≤ n → fedRows m k operation words places count ≡ answered (feed m k operation (rowsOf words places count))
   unfolding fedRows
   within-room n room before after =
       let part : (i : ℕ) → i ≤ n → Room words places i = λ i h. record { in-words = omega (arith, room .in-words); in-places = omega (arith, room .in-places) } in
       in-room words places count (part count before) (feed m k operation (rowsOf words places count)) (part (length (feed m k operation (rowsOf words places count) .rows)) after)
 
-  pub fed-with-room : Room words places (count + 1) → fedRows m k operation words places count ≡ feed m k operation (rowsOf words places count)
+  pub fed-with-room : Room words places (count + 1) → fedRows m k operation words places count ≡ answered (feed m k operation (rowsOf words places count))
   fed-with-room room =
       let size = rows-length words places count in
       within-room (count + 1) room (omega arith) (fed-high m k (count + 1) (rowsOf words places count) (omega arith) (λ q h. omega arith) operation)
 
-  pub fed-by-panel : (reach : ℕ) (counts slots : List ℕ) → Agrees m k reach counts slots (rowsOf words places count) → length words ≡ m → length places ≡ m → fedRows m k operation words places count ≡ feed m k operation (rowsOf words places count)
+  pub fed-by-panel : (reach : ℕ) (counts slots : List ℕ) → Agrees m k reach counts slots (rowsOf words places count) → length words ≡ m → length places ≡ m → fedRows m k operation words places count ≡ answered (feed m k operation (rowsOf words places count))
   fed-by-panel reach counts slots agrees w p =
       let rows = rowsOf words places count in
       let size = rows-length words places count in

@@ -8,7 +8,7 @@ use native.Mathlib.Numerals.{add-one}
 use native.Mathlib.Omega.{arith}
 use borrow.Author.Tests.{eq-eqb, ne-eqb}
 use lib.ListN.{length, getD}
-use Rattle.refusal.specs.Judging.{either}
+use Rattle.conditions.specs.Conditions.{either}
 use Rattle.slot_words.specs.Word.{pointOf, valueOf}
 use Rattle.plain_list.specs.PlainList.{present, entryOf, isPlace}
 use Rattle.plain_list.proofs.RowLaws.{entry-same, entry-other}

@@ -4,9 +4,9 @@ use mathlib.Core.Bool.{Bool, true, false}
 use mathlib.Core.List.{List}
 use mathlib.Core.Path.{_≡_}
 use lib.ListN.{length}
-use Rattle.refusal.specs.Judging.{both}
-use Rattle.answers.specs.Answers.{refused, paperCall}
-use Rattle.plain_list.specs.PlainList.{Rows, Told, tells, Operation, nothing, put, change, removal, feed}
+use Rattle.conditions.specs.Conditions.{both}
+use Rattle.answers.specs.Answers.{Answer, ended, refused, paperWhole}
+use Rattle.plain_list.specs.PlainList.{Rows, Told, Operation, nothing, put, change, removal, feed}
 use Rattle.plain_rows.specs.declared.Operation.{Operation as OperationFed}
 use Rattle.plain_rows.specs.declared.Operation.the-variants.{Nothing, Put, Change, Removal}
 use Rattle.plain_rows.specs.declared.Fed.{Fed}
@@ -19,22 +19,35 @@ operationOf (Put point value) = put point value
 operationOf (Change point keep flip) = change point keep flip
 operationOf (Removal point) = removal point
 
+-- what feeding the slices comes to: the rows after it, and the answer
+pub record Feeding : Type 0 where
+  pub rows : Rows
+  pub answer : Answer
+
+-- the two
+abbrev pub feeding : Rows → Answer → Feeding
+feeding rows answer = record { rows = rows; answer = answer }
+
+-- what the list became and what it told
+abbrev pub answered : Told → Feeding
+answered told = feeding (told .rows) (ended (told .answer))
+
 -- what the list was told if there is room for it; else refusal 1, "slots lent ≠ m", with the rows as they were
-unfoldable pub ifRoom : Bool → Rows → Told → Told
-ifRoom true rows told = told
-ifRoom false rows told = tells rows (refused 1)
+unfoldable pub ifRoom : Bool → Rows → Told → Feeding
+ifRoom true rows told = answered told
+ifRoom false rows told = feeding rows (refused 1)
 
 -- there is room if the slices hold the rows before and after
-unfoldable pub inSlices : List ℕ → List ℕ → ℕ → Told → Told
+unfoldable pub inSlices : List ℕ → List ℕ → ℕ → Told → Feeding
 inSlices words places count told =
     ifRoom (both (hasRoom words places count) (hasRoom words places (length (told .rows)))) (rowsOf words places count) told
 
 -- "It is fed the arguments of each put, change and removal that is started"
-unfoldable pub fedRows : ℕ → ℕ → Operation → List ℕ → List ℕ → ℕ → Told
+unfoldable pub fedRows : ℕ → ℕ → Operation → List ℕ → List ℕ → ℕ → Feeding
 fedRows m k operation words places count = inSlices words places count (feed m k operation (rowsOf words places count))
 
--- the slices after the call show what the list was told, and from the new count on they are as before
-pub record Feeds (words places words′ places′ : List ℕ) (fed : Fed) (told : Told) : Type 0 where
-  pub shown : tells (rowsOf words′ places′ (fed .count)) (paperCall (fed .answer)) ≡ told
+-- the slices after the call show the rows, with the answer, and from the new count on they are as before
+pub record Feeds (words places words′ places′ : List ℕ) (fed : Fed) (after : Feeding) : Type 0 where
+  pub shown : feeding (rowsOf words′ places′ (fed .count)) (paperWhole (fed .answer)) ≡ after
   pub words-stay : SameFrom (fed .count) words words′
   pub places-stay : SameFrom (fed .count) places places′

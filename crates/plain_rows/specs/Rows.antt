@@ -5,7 +5,7 @@ use mathlib.Core.List.{List, [], _∷_}
 use mathlib.Core.Path.{_≡_}
 use lib.Dec.{leb}
 use lib.ListN.{length, getD}
-use Rattle.refusal.specs.Judging.{both}
+use Rattle.conditions.specs.Conditions.{both}
 use Rattle.slot_words.specs.Word.{pointOf, valueOf}
 use Rattle.plain_list.specs.PlainList.{Row, Rows, Entry, absent, present, row, withValue, without}
 use Rattle.plain_rows.specs.declared.rows.Entry.{Entry as EntryRead}

@@ -8,12 +8,12 @@ mod indices;
 mod operations;
 mod rows;
 
-use answers::CallAnswer;
+use answers::WholeAnswer;
 use operations::change_row;
 use operations::misfit;
 use operations::put_row;
 use operations::remove_row;
-use refusal::Refusal;
+use operations::unknown;
 use rows::has_room;
 
 // An operation with its arguments, as the list is fed.
@@ -27,7 +27,7 @@ pub enum Operation {
 // What feeding leaves besides the slices: how many rows there are, and what the list answers.
 pub struct Fed {
     pub count: usize,
-    pub answer: CallAnswer,
+    pub answer: WholeAnswer,
 }
 
 // Feeds an operation to the list of `count` rows, for a table of m slots and k functions. If a slice is
@@ -62,10 +62,7 @@ fn feed_rows(
     ensures { λ r. ⌜ Feeds (now (words .entry)) (now (places .entry)) (now (words .exit)) (now (places .exit)) r (fedRows m k (operationOf operation) (now (words .entry)) (now (places .entry)) count) ⌝ }
 {
     match operation {
-        Operation::Nothing => Fed {
-            count: count,
-            answer: CallAnswer::Refused(Refusal::Idle),
-        },
+        Operation::Nothing => unknown(count),
         Operation::Put { point, value } => put_row(words, places, count, m, k, point, value),
         Operation::Change { point, keep, flip } => change_row(
             words,

@@ -1,7 +1,7 @@
 // What each operation makes of the rows, and what the list answers. The caller has judged that the
 // slices hold the rows.
 ghost use mathlib.Core.Path.{_≡_};
-ghost use Rattle.answers.specs.Answers.{Answer, refused, endedWith, paperCall};
+ghost use Rattle.answers.specs.Answers.{placed as placedAt, endedWith, ended, refused, paperWhole};
 ghost use Rattle.plain_list.specs.PlainList.{indexOf, addRow, putRow, changeRow, removeRow};
 ghost use Rattle.plain_rows.specs.Rows.{rowsOf, Room};
 ghost use Rattle.plain_rows.specs.Fed.{inSlices, Feeds};
@@ -13,43 +13,44 @@ use crate::rows::Entry;
 use crate::rows::entry_of;
 use crate::rows::with_value;
 use crate::rows::without;
-use answers::CallAnswer;
+use answers::Ending;
 use answers::Spot;
+use answers::WholeAnswer;
+use conditions::both_hold;
 use hash::position;
 use refusal::Refusal;
-use refusal::tests::both_hold;
 use slot_words::word::word_of;
 
 // A slice is too short: as many rows as before, and refusal 1.
 pub(crate) fn misfit(count: usize) -> Fed
-    ensures { λ r. ⌜ (r .count ≡ count) × (paperCall (r .answer) ≡ refused 1) ⌝ }
+    ensures { λ r. ⌜ (r .count ≡ count) × (paperWhole (r .answer) ≡ refused 1) ⌝ }
 {
     Fed {
         count: count,
-        answer: CallAnswer::Refused(Refusal::Misfit),
+        answer: WholeAnswer::Refused(Refusal::Misfit),
     }
 }
 
 // No row of the point: as many rows as before, and refusal 7.
-fn unknown(count: usize) -> Fed
-    ensures { λ r. ⌜ (r .count ≡ count) × (paperCall (r .answer) ≡ endedWith 7) ⌝ }
+pub(crate) fn unknown(count: usize) -> Fed
+    ensures { λ r. ⌜ (r .count ≡ count) × (paperWhole (r .answer) ≡ ended (endedWith 7)) ⌝ }
 {
     Fed {
         count: count,
-        answer: CallAnswer::Unknown,
+        answer: WholeAnswer::Ended(Ending::Unknown),
     }
 }
 
 // The point has its row at the place: `count` rows now, and the place with its index.
 fn placed(count: usize, m: u32, k: u32, point: u32, place: u32) -> Fed
-    ensures { λ r. ⌜ (r .count ≡ count) × (paperCall (r .answer) ≡ Answer.placed place (indexOf m k point place)) ⌝ }
+    ensures { λ r. ⌜ (r .count ≡ count) × (paperWhole (r .answer) ≡ ended (placedAt place (indexOf m k point place))) ⌝ }
 {
     Fed {
         count: count,
-        answer: CallAnswer::Placed(Spot {
+        answer: WholeAnswer::Ended(Ending::Placed(Spot {
             slot: place,
             index: index_of(m, k, point, place),
-        }),
+        })),
     }
 }
 
@@ -94,7 +95,7 @@ fn add_row(
     if index == 0 {
         return Fed {
             count: count,
-            answer: CallAnswer::NoPerch,
+            answer: WholeAnswer::Ended(Ending::NoPerch),
         };
     }
     if !both_hold(count < words.len(), count < places.len()) {
@@ -124,7 +125,7 @@ pub(crate) fn change_row(
             with_value(words, count, point, new);
             Fed {
                 count: count,
-                answer: CallAnswer::Changed(new),
+                answer: WholeAnswer::Ended(Ending::Changed(new)),
             }
         }
     }
@@ -145,9 +146,10 @@ pub(crate) fn remove_row(
         Entry::Absent => unknown(count),
         Entry::Present { value: _, place: _ } => {
             let left = without(words, places, count, point);
+            let reach = largest_index(words, places, left, m, k);
             Fed {
                 count: left,
-                answer: CallAnswer::Removed(largest_index(words, places, left, m, k)),
+                answer: WholeAnswer::Ended(Ending::Removed(reach)),
             }
         }
     }

@@ -8,7 +8,7 @@ ghost use lib.ListN.{length};
 ghost use Rattle.slot_words.specs.Word.{pointOf, wordOf};
 ghost use Rattle.plain_list.specs.PlainList.{entryOf, isPlace};
 ghost use Rattle.plain_rows.specs.Rows.{rowsOf, hasRoom, Room, entryRead, Revalues, Removes};
-use refusal::tests::both_hold;
+use conditions::both_hold;
 use slot_words::word::point_of;
 use slot_words::word::value_of;
 use slot_words::word::word_of;

@@ -10,8 +10,8 @@ use native.Mathlib.Decide.{ℕ-discrete}
 use borrow.Author.Tests.{eqb-true, eqb-false, ltb-true, ltb-false}
 use lib.Dec.{eqb, ltb}
 use lib.ListN.{getD}
-use Rattle.refusal.specs.Judging.{within}
-use Rattle.refusal.proofs.Laws.{both-left, both-right, within-low, within-high}
+use Rattle.conditions.specs.Conditions.{within}
+use Rattle.conditions.proofs.ConditionLaws.{both-left, both-right, within-low, within-high}
 use Rattle.hash.specs.Position.{positionOf}
 use Rattle.hash.proofs.Laws.{position-below}
 use Rattle.slot_words.specs.Word.{wordOf}
@@ -21,9 +21,10 @@ use Rattle.record.specs.declared.Put.{Put}
 use Rattle.record.specs.declared.PutStage.{PutStage}
 use Rattle.record.specs.declared.PutStage.the-variants.{Searching, Scanning, Found as PutStage·Found, Chosen}
 use Rattle.record.specs.declared.WriterWork.the-variants.{Putting}
-use Rattle.record.specs.Parts.{withReach, withCount, countOf}
-use Rattle.work_ranges.specs.WorkRanges.{validPoint, putStageInRange, putInRange}
-use Rattle.answers.specs.Answers.{underway, placed, endedWith}
+use Rattle.record.specs.Parts.{withReach, withCount, countOf, withCounts}
+use Rattle.slot_words.specs.Points.{validPoint}
+use Rattle.work_ranges.specs.WorkRanges.{putStageInRange, putInRange}
+use Rattle.answers.specs.Answers.{placed, endedWith, continues}
 use Rattle.plain_list.specs.PlainList.{row, Rows, absent, entryOf, withValue, isPlace, indexOf, tells, addRow, putEntry, putRow}
 use Rattle.plain_list.proofs.RowLaws.{entry-same, steady-same, steady-value, steady-added}
 use Rattle.plain_list.proofs.IndexLaws.{Lowest, index-is, lowest-one, free-is, none-free, indexed-behind}
@@ -37,12 +38,13 @@ use Rattle.search.specs.declared.SearchAnswer.the-variants.{Found as SearchAnsw
 use Rattle.search.specs.Access.{wordRead}
 use Rattle.search.specs.Search.{searchAccess, searchAdvance}
 use Rattle.search.proofs.TrailLaws.{Knows, search-knows}
-use Rattle.moves.specs.declared.memory.WriterAccess.the-variants.{Read, StoreReach}
-use Rattle.moves.specs.declared.update.Update.the-variants.{Nothing, Reach, Counted}
-use Rattle.moves.specs.Counts.{counted}
-use Rattle.moves.specs.Memory.{storeWord, accessRead, slotsAfter, storesSlot}
-use Rattle.moves.specs.Moves.{isIdle, goesOn, ends, updated}
-use Rattle.moves.proofs.StepAgreement.{Standing, standing, Below, PutOK, WorkOK, begun, isWriterEnd, no-command, StepOK, goes-on, ends-fed}
+use Rattle.effects.specs.declared.memory.WriterAccess.{WriterAccess}
+use Rattle.effects.specs.declared.memory.WriterAccess.the-variants.{Read, StoreReach}
+use Rattle.effects.specs.declared.update.Update.the-variants.{Nothing, Reach, Counted}
+use Rattle.effects.specs.Counts.{counted}
+use Rattle.effects.specs.Memory.{storeWord, slotStored, accessRead, slotsAfter}
+use Rattle.effects.specs.Effects.{goesOn, ends, updated}
+use Rattle.effects.proofs.StepAgreement.{Standing, standing, Below, PutOK, WorkOK, begun, no-command, StepOK, goes-on, ends-fed}
 use Rattle.put.specs.Put.{exceeds, putStageAccess, putAccess, putAt, putAnswered, putSearched, putScanned, putTakes, putStageAdvance, putAdvance}
 
 -- what the comparison with the reach says
@@ -66,7 +68,7 @@ module _ (panel : Record) (slots : List ℕ) (rows : Rows) (put : Put) (agrees :
 
   -- a step that reads, and goes on at this stage
   on-stage : (read : ReadAccess) (stage : PutStage) → PutOK m k (panel .reach) slots rows q stage → StepOK panel slots (Read read) (putAt put stage) rows (putRow m k q (put .value) rows) (Putting put)
-  unfolding storesSlot slotsAfter putAt goesOn isIdle updated begun
+  unfolding slotsAfter putAt goesOn updated begun
   on-stage read stage h = goes-on refl refl refl refl refl refl refl (record { agrees = agrees; work = (h, fits) })
 
   searched : (read : ReadAccess) (after : Searched) → Tight m k (panel .reach) rows → Knows (entryOf q rows ≡ absent) m k q rows after → StepOK panel slots (Read read) (putSearched put after) rows (putRow m k q (put .value) rows) (Putting put)
@@ -100,7 +102,7 @@ module _ (panel : Record) (slots : List ℕ) (rows : Rows) (put : Put) (agrees :
       rw (below .none, none-free m k q rows (λ j a b. place-taken j (below .taken j a (omega arith))))
 
   scanned : (index : ℕ) → within 1 index k ≡ true → Below m q slots rows index → Tight m k (panel .reach) rows → StepOK panel slots (Read (Slot (positionOf m q index))) (putScanned k put index (word-at index)) rows (putRow m k q (put .value) rows) (Putting put)
-  unfolding putScanned ends isWriterEnd slotsAfter updated
+  unfolding putScanned ends slotsAfter updated
   scanned index inside below tight = go (eqb (word-at index) 0) refl (ltb index k) refl
     where
       go : (empty : Bool) → eqb (word-at index) 0 ≡ empty → (more : Bool) → ltb index k ≡ more → StepOK panel slots (Read (Slot (positionOf m q index))) (cond empty (putAt put (Chosen index)) (cond more (putAt put (Scanning (index + 1))) (ends Nothing (endedWith 6)))) rows (putRow m k q (put .value) rows) (Putting put)
@@ -109,7 +111,7 @@ module _ (panel : Record) (slots : List ℕ) (rows : Rows) (put : Put) (agrees :
       go false e false f =
           let told = told-none index (more-taken index below (eqb-false (word-at index) 0 e)) (ltb-false index k f) in
           subst (λ t. StepOK panel slots (Read (Slot (positionOf m q index))) (ends Nothing (endedWith 6)) rows t (Putting put)) (sym told)
-          (ends-fed refl refl refl refl (steady-same rows) (no-command refl refl) (record { agrees = agrees; work = tight }))
+          (ends-fed refl refl refl (steady-same rows) (no-command refl refl) (record { agrees = agrees; work = tight }))
 
   -- the position chosen is the lowest index of its slot
   chosen-lowest : (index : ℕ) → within 1 index k ≡ true → Below m q slots rows index → word-at index ≡ 0 → Lowest m k q (positionOf m q index) index
@@ -136,8 +138,8 @@ module _ (panel : Record) (slots : List ℕ) (rows : Rows) (put : Put) (agrees :
       (add-at index low ∙ ap (λ (i : ℕ). tells (row q (put .value) (positionOf m q index) ∷ rows) (placed (positionOf m q index) i)) (index-is m k q (positionOf m q index) index (chosen-lowest index inside below empty)))
 
   -- the reach is raised
-  raises : (index : ℕ) → put .stage ≡ Chosen index → within 1 index k ≡ true → Below m q slots rows index → word-at index ≡ 0 → panel .reach < index → StepOK panel slots (StoreReach index) (record { work = Putting put; update = Reach index; answer = underway }) rows (putRow m k q (put .value) rows) (Putting put)
-  unfolding storesSlot slotsAfter isIdle updated withReach
+  raises : (index : ℕ) → put .stage ≡ Chosen index → within 1 index k ≡ true → Below m q slots rows index → word-at index ≡ 0 → panel .reach < index → StepOK panel slots (StoreReach index) (record { work = Putting put; update = Reach index; progress = continues }) rows (putRow m k q (put .value) rows) (Putting put)
+  unfolding slotsAfter updated withReach
   raises index e inside below empty more =
       goes-on refl refl refl refl refl refl refl
       (record {
@@ -147,10 +149,10 @@ module _ (panel : Record) (slots : List ℕ) (rows : Rows) (put : Put) (agrees :
 
   -- the slot is stored, and the index counted
   stores : (index : ℕ) → within 1 index k ≡ true → Below m q slots rows index → word-at index ≡ 0 → Tight m k (panel .reach) rows ⊎ (panel .reach ≡ index) → index ≤ panel .reach → StepOK panel slots (storeWord m q index (wordOf q (put .value))) (ends (Counted index) (placed (positionOf m q index) index)) rows (putRow m k q (put .value) rows) (Putting put)
-  unfolding storeWord slotsAfter ends isWriterEnd updated counted withCount countOf
+  unfolding storeWord slotsAfter ends updated counted withCount withCounts countOf
   stores index inside below empty top reached =
       subst (λ t. StepOK panel slots (storeWord m q index (wordOf q (put .value))) (ends (Counted index) (placed (positionOf m q index) index)) rows t (Putting put)) (sym (told-chosen index inside below empty))
-      (ends-fed refl refl refl refl (steady-added (row q (put .value) (positionOf m q index)) rows (below .none)) (no-command refl refl)
+      (ends-fed refl refl refl (steady-added (row q (put .value) (positionOf m q index)) rows (below .none)) (no-command refl refl)
       (record {
         agrees = agrees-added m k (panel .reach) (panel .counts) slots rows agrees q (put .value) (positionOf m q index) index (below .none) valid fits empty lowest reached;
         work = tight top;
@@ -172,28 +174,31 @@ module _ (panel : Record) (slots : List ℕ) (rows : Rows) (put : Put) (agrees :
             index = index-is m k q (positionOf m q index) index lowest ∙ sym same;
           })
 
-  takes : (index : ℕ) → put .stage ≡ Chosen index → within 1 index k ≡ true → Below m q slots rows index → word-at index ≡ 0 → Tight m k (panel .reach) rows ⊎ (panel .reach ≡ index) → StepOK panel slots (putStageAccess m (panel .reach) put (Chosen index)) (putTakes m (panel .reach) put index) rows (putRow m k q (put .value) rows) (Putting put)
-  unfolding putStageAccess putTakes
+  takes : (index : ℕ) → put .stage ≡ Chosen index → within 1 index k ≡ true → Below m q slots rows index → word-at index ≡ 0 → Tight m k (panel .reach) rows ⊎ (panel .reach ≡ index) → StepOK panel slots (putStageAccess m (panel .reach) put (Chosen index)) (putTakes (panel .reach) (slotStored (putStageAccess m (panel .reach) put (Chosen index))) put index) rows (putRow m k q (put .value) rows) (Putting put)
+  unfolding putStageAccess putTakes storeWord slotStored
   takes index e inside below empty top = go (exceeds (panel .reach) index) refl
     where
-      go : (more : Bool) → exceeds (panel .reach) index ≡ more → StepOK panel slots (cond more (StoreReach index) (storeWord m q index (wordOf q (put .value)))) (cond more (record { work = Putting put; update = Reach index; answer = underway }) (ends (Counted index) (placed (positionOf m q index) index))) rows (putRow m k q (put .value) rows) (Putting put)
+      access : Bool → WriterAccess
+      access more = cond more (StoreReach index) (storeWord m q index (wordOf q (put .value)))
+
+      go : (more : Bool) → exceeds (panel .reach) index ≡ more → StepOK panel slots (access more) (cond more (record { work = Putting put; update = Reach index; progress = continues }) (ends (Counted index) (placed (slotStored (access more)) index))) rows (putRow m k q (put .value) rows) (Putting put)
       go true f = raises index e inside below empty (above (panel .reach) index f)
       go false f = stores index inside below empty top (covered (panel .reach) index f)
 
   -- the row's word is stored anew
   overwrites : (place : Place) → Standing m k q rows place → Tight m k (panel .reach) rows → StepOK panel slots (storeWord m q (place .index) (wordOf q (put .value))) (ends Nothing (placed (positionOf m q (place .index)) (place .index))) rows (putRow m k q (put .value) rows) (Putting put)
-  unfolding storeWord slotsAfter ends isWriterEnd updated putRow putEntry
+  unfolding storeWord slotsAfter ends updated putRow putEntry
   overwrites place stands tight =
       let told : putRow m k q (put .value) rows ≡ tells (withValue q (put .value) rows) (placed (positionOf m q (place .index)) (place .index)) = rw (stands .found) (ap (λ (i : ℕ). tells (withValue q (put .value) rows) (placed (positionOf m q (place .index)) i)) (index-is m k q (positionOf m q (place .index)) (place .index) (stands .lowest))) in
       subst (λ t. StepOK panel slots (storeWord m q (place .index) (wordOf q (put .value))) (ends Nothing (placed (positionOf m q (place .index)) (place .index))) rows t (Putting put)) (sym told)
-      (ends-fed refl refl refl refl (steady-value q (put .value) rows) (no-command refl refl)
+      (ends-fed refl refl refl (steady-value q (put .value) rows) (no-command refl refl)
       (record {
         agrees = agrees-stored m k (panel .reach) (panel .counts) slots rows agrees q (place .value) (positionOf m q (place .index)) (put .value) (stands .found) fits;
         work = tight-value m k (panel .reach) q (put .value) rows tight;
       }))
 
-  at-stage : (stage : PutStage) → put .stage ≡ stage → putStageInRange k stage ≡ true → PutOK m k (panel .reach) slots rows q stage → StepOK panel slots (putStageAccess m (panel .reach) put stage) (putStageAdvance m k (panel .reach) put stage (accessRead slots (putStageAccess m (panel .reach) put stage))) rows (putRow m k q (put .value) rows) (Putting put)
-  unfolding putStageAccess putStageAdvance putStageInRange accessRead wordRead
+  at-stage : (stage : PutStage) → put .stage ≡ stage → putStageInRange k stage ≡ true → PutOK m k (panel .reach) slots rows q stage → StepOK panel slots (putStageAccess m (panel .reach) put stage) (putStageAdvance k (panel .reach) (slotStored (putStageAccess m (panel .reach) put stage)) put stage (accessRead slots (putStageAccess m (panel .reach) put stage))) rows (putRow m k q (put .value) rows) (Putting put)
+  unfolding putStageAccess putStageAdvance putStageInRange storeWord slotStored accessRead wordRead
   at-stage (Searching search) e inside h =
       searched (searchAccess m q search) (searchAdvance (panel .reach) q search (wordRead slots (searchAccess m q search))) (h .1)
       (search-knows (entryOf q rows ≡ absent) m k (panel .reach) (panel .counts) slots rows agrees q (valid-low q valid) (λ none. none) search inside (h .0))
@@ -202,7 +207,7 @@ module _ (panel : Record) (slots : List ℕ) (rows : Rows) (put : Put) (agrees :
   at-stage (Chosen index) e inside h = takes index e inside (h .0) (h .1) (h .2)
 
 -- a put's step
-pub put-agrees : (panel : Record) (slots : List ℕ) (rows : Rows) (put : Put) → Agrees (panel .m) (panel .k) (panel .reach) (panel .counts) slots rows → putInRange (panel .k) put ≡ true → WorkOK (panel .m) (panel .k) (panel .reach) slots rows (Putting put) → StepOK panel slots (putAccess (panel .m) (panel .reach) put) (putAdvance (panel .m) (panel .k) (panel .reach) put (accessRead slots (putAccess (panel .m) (panel .reach) put))) rows (putRow (panel .m) (panel .k) (put .point) (put .value) rows) (Putting put)
+pub put-agrees : (panel : Record) (slots : List ℕ) (rows : Rows) (put : Put) → Agrees (panel .m) (panel .k) (panel .reach) (panel .counts) slots rows → putInRange (panel .k) put ≡ true → WorkOK (panel .m) (panel .k) (panel .reach) slots rows (Putting put) → StepOK panel slots (putAccess (panel .m) (panel .reach) put) (putAdvance (panel .k) (panel .reach) (slotStored (putAccess (panel .m) (panel .reach) put)) put (accessRead slots (putAccess (panel .m) (panel .reach) put))) rows (putRow (panel .m) (panel .k) (put .point) (put .value) rows) (Putting put)
 unfolding putAccess putAdvance putInRange
 put-agrees panel slots rows put agrees inside h =
     at-stage panel slots rows put agrees (both-left (validPoint (put .point)) (putStageInRange (panel .k) (put .stage)) inside) (h .1) (put .stage) refl

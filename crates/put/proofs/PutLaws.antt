@@ -6,9 +6,8 @@ use mathlib.Core.Bool.{Bool, true, false, cond}
 use native.Mathlib.Omega.{arith}
 use borrow.Author.Tests.{ltb-true, le-leb}
 use lib.Dec.{ltb, eqb}
-use Rattle.refusal.specs.Judging.{within}
-use Rattle.refusal.proofs.Laws.{both-left, both-right, both-true, within-high, is-within}
-use Rattle.hash.specs.Position.{positionOf}
+use Rattle.conditions.specs.Conditions.{within}
+use Rattle.conditions.proofs.ConditionLaws.{both-left, both-right, both-true, within-high, is-within}
 use Rattle.hash.proofs.Laws.{position-below}
 use Rattle.record.specs.declared.Search.{Search}
 use Rattle.record.specs.declared.Search.the-variants.{Unread, Probing}
@@ -16,19 +15,20 @@ use Rattle.record.specs.declared.Put.{Put}
 use Rattle.record.specs.declared.PutStage.{PutStage}
 use Rattle.record.specs.declared.PutStage.the-variants.{Searching, Scanning, Found as PutStage·Found, Chosen}
 use Rattle.record.specs.declared.WriterWork.the-variants.{Putting}
-use Rattle.work_ranges.specs.WorkRanges.{validPoint, putStageInRange, putInRange, writerInRange}
+use Rattle.slot_words.specs.Points.{validPoint}
+use Rattle.work_ranges.specs.WorkRanges.{putStageInRange, putInRange, writerInRange}
 use Rattle.search.specs.declared.Searched.{Searched}
 use Rattle.search.specs.declared.Searched.the-variants.{Going, Answered}
 use Rattle.search.specs.declared.SearchAnswer.the-variants.{Found as SearchAnswer·Found, Unknown}
-use Rattle.answers.specs.Answers.{isUnderway, underway, placed, endedWith}
+use Rattle.answers.specs.Answers.{placed, endedWith, continues}
 use Rattle.slot_words.specs.Word.{wordOf}
 use Rattle.search.specs.Search.{searchAdvance}
 use Rattle.search.proofs.SearchLaws.{slotRead, search-inside, searchLeft, searchedLeft, searchedInRange, answerInRange, OneStep, first-step, probe-step}
-use Rattle.moves.specs.declared.memory.WriterAccess.the-variants.{StoreReach}
-use Rattle.moves.specs.Memory.{storeWord}
-use Rattle.moves.specs.declared.update.Update.the-variants.{Nothing, Reach, Counted}
-use Rattle.moves.specs.Moves.{WriterMove, isIdle, goesOn, ends}
-use Rattle.moves.proofs.MoveLaws.{slotNamed, updateInRange, reachAfter, reachStored, raising, raising-low, raising-high, raising-grows, putSearchLeft, putLeft, writerLeft, OneMove}
+use Rattle.effects.specs.declared.memory.WriterAccess.the-variants.{StoreReach}
+use Rattle.effects.specs.Memory.{storeWord}
+use Rattle.effects.specs.declared.update.Update.the-variants.{Nothing, Reach, Counted}
+use Rattle.effects.specs.Effects.{WriterEffect, goesOn, ends}
+use Rattle.effects.proofs.EffectLaws.{slotNamed, updateInRange, reachAfter, reachStored, raising, raising-low, raising-high, raising-grows, putSearchLeft, putLeft, writerLeft, OneEffect}
 use Rattle.put.specs.Put.{exceeds, putStageAccess, putAccess, putAt, putAnswered, putSearched, putScanned, putTakes, putStageAdvance, putAdvance}
 
 search-left : (k reach : ℕ) (search : Search) → putSearchLeft k reach search ≤ searchLeft k search + (k + 1 + raising reach k)
@@ -38,33 +38,33 @@ search-left k reach (Probing probe) = omega arith
 
 module _ (k reach : ℕ) (put : Put) (low : 1 ≤ k) (valid : validPoint (put .point) ≡ true) where
   -- the put goes on at a stage in range with as many steps left
-  at-stage : (left : ℕ) (stage : PutStage) → putStageInRange k stage ≡ true → putLeft k reach stage + 1 ≤ left → OneMove k reach left (putAt put stage)
-  unfolding putAt goesOn writerInRange putInRange updateInRange reachAfter writerLeft isUnderway isIdle
+  at-stage : (left : ℕ) (stage : PutStage) → putStageInRange k stage ≡ true → putLeft k reach stage + 1 ≤ left → OneEffect k reach left (putAt put stage)
+  unfolding putAt goesOn writerInRange putInRange updateInRange reachAfter writerLeft
   at-stage left stage h less =
       record { work-fits = both-true (validPoint (put .point)) (putStageInRange k stage) valid h; update-fits = refl; ended = refl; less = less }
 
-  searched : (left : ℕ) (after : Searched) → OneStep k left after → OneMove k reach (left + (k + 1 + raising reach k)) (putSearched put after)
+  searched : (left : ℕ) (after : Searched) → OneStep k left after → OneEffect k reach (left + (k + 1 + raising reach k)) (putSearched put after)
   unfolding putSearched putAnswered putStageInRange putLeft searchedInRange searchedLeft answerInRange
   searched left (Going search) s = at-stage _ (Searching search) (s .fits) (omega (arith, search-left k reach search, s .less))
   searched left (Answered (SearchAnswer·Found place)) s = at-stage _ (PutStage·Found place) (s .fits) (omega (arith, s .less))
   searched left (Answered Unknown) s = at-stage _ (Scanning 1) (is-within 1 1 k (omega arith) low) (omega (arith, s .less))
 
-  scanned : (index word : ℕ) → within 1 index k ≡ true → OneMove k reach (k - index + 1 + (1 + raising reach k)) (putScanned k put index word)
-  unfolding putScanned ends putStageInRange putLeft writerInRange updateInRange reachAfter writerLeft isUnderway isIdle
+  scanned : (index word : ℕ) → within 1 index k ≡ true → OneEffect k reach (k - index + 1 + (1 + raising reach k)) (putScanned k put index word)
+  unfolding putScanned ends putStageInRange putLeft writerInRange updateInRange reachAfter writerLeft
   scanned index word h = go (eqb word 0) (ltb index k) refl
     where
       high : index ≤ k
       high = within-high 1 index k h
 
-      go : (empty below : Bool) → ltb index k ≡ below → OneMove k reach (k - index + 1 + (1 + raising reach k)) (cond empty (putAt put (Chosen index)) (cond below (putAt put (Scanning (index + 1))) (ends Nothing (endedWith 6))))
+      go : (empty below : Bool) → ltb index k ≡ below → OneEffect k reach (k - index + 1 + (1 + raising reach k)) (cond empty (putAt put (Chosen index)) (cond below (putAt put (Scanning (index + 1))) (ends Nothing (endedWith 6))))
       go true below e = at-stage _ (Chosen index) h (omega (arith, raising-grows reach index k high))
       go false true e =
           let less = ltb-true index k e in at-stage _ (Scanning (index + 1)) (is-within 1 (index + 1) k (omega arith) (omega arith)) (omega arith)
       go false false e = record { work-fits = refl; update-fits = refl; ended = refl; less = omega arith }
 
-  takes : (m index : ℕ) → within 1 index k ≡ true → put .stage ≡ Chosen index → OneMove k reach (1 + raising reach index) (putTakes m reach put index)
-  unfolding exceeds putTakes ends putInRange putStageInRange putLeft writerInRange updateInRange reachAfter writerLeft raising isUnderway isIdle
-  takes m index h e = go (ltb reach index) refl
+  takes : (slot index : ℕ) → within 1 index k ≡ true → put .stage ≡ Chosen index → OneEffect k reach (1 + raising reach index) (putTakes reach slot put index)
+  unfolding exceeds putTakes ends putInRange putStageInRange putLeft writerInRange updateInRange reachAfter writerLeft raising
+  takes slot index h e = go (ltb reach index) refl
     where
       high : index ≤ k
       high = within-high 1 index k h
@@ -72,7 +72,7 @@ module _ (k reach : ℕ) (put : Put) (low : 1 ≤ k) (valid : validPoint (put .p
       stage-fits : putStageInRange k (put .stage) ≡ true
       stage-fits = ap (putStageInRange k) e ∙ h
 
-      go : (above : Bool) → ltb reach index ≡ above → OneMove k reach (1 + cond above 1 0) (cond above (record { work = Putting put; update = Reach index; answer = underway }) (ends (Counted index) (placed (positionOf m (put .point) index) index)))
+      go : (above : Bool) → ltb reach index ≡ above → OneEffect k reach (1 + cond above 1 0) (cond above (record { work = Putting put; update = Reach index; progress = continues }) (ends (Counted index) (placed slot index)))
       go true f =
           record {
             work-fits = both-true (validPoint (put .point)) (putStageInRange k (put .stage)) valid stage-fits;
@@ -82,24 +82,24 @@ module _ (k reach : ℕ) (put : Put) (low : 1 ≤ k) (valid : validPoint (put .p
           }
       go false f = record { work-fits = refl; update-fits = refl; ended = refl; less = omega arith }
 
-  at-any-stage : (m word : ℕ) (stage : PutStage) → reach ≤ k → put .stage ≡ stage → putStageInRange k stage ≡ true → OneMove k reach (putLeft k reach stage) (putStageAdvance m k reach put stage word)
-  unfolding putStageAdvance putStageInRange putLeft putSearchLeft searchAdvance ends writerInRange updateInRange reachAfter writerLeft isUnderway isIdle
-  at-any-stage m word (Searching Unread) r e h =
+  at-any-stage : (slot word : ℕ) (stage : PutStage) → reach ≤ k → put .stage ≡ stage → putStageInRange k stage ≡ true → OneEffect k reach (putLeft k reach stage) (putStageAdvance k reach slot put stage word)
+  unfolding putStageAdvance putStageInRange putLeft putSearchLeft searchAdvance ends writerInRange updateInRange reachAfter writerLeft
+  at-any-stage slot word (Searching Unread) r e h =
       let one = searched (reach + 1) _ (first-step k reach r) in
       record { work-fits = one .work-fits; update-fits = one .update-fits; ended = one .ended; less = omega (arith, one .less, raising-high reach k r) }
-  at-any-stage m word (Searching (Probing probe)) r e h = searched _ _ (probe-step k (put .point) probe word h)
-  at-any-stage m word (Scanning index) r e h = scanned index word h
-  at-any-stage m word (PutStage·Found place) r e h = record { work-fits = refl; update-fits = refl; ended = refl; less = omega arith }
-  at-any-stage m word (Chosen index) r e h = takes m index h e
+  at-any-stage slot word (Searching (Probing probe)) r e h = searched _ _ (probe-step k (put .point) probe word h)
+  at-any-stage slot word (Scanning index) r e h = scanned index word h
+  at-any-stage slot word (PutStage·Found place) r e h = record { work-fits = refl; update-fits = refl; ended = refl; less = omega arith }
+  at-any-stage slot word (Chosen index) r e h = takes slot index h e
 
-pub put-moves : (m k reach : ℕ) (put : Put) (word : ℕ) → 1 ≤ k → reach ≤ k → putInRange k put ≡ true → OneMove k reach (writerLeft k reach (Putting put)) (putAdvance m k reach put word)
-unfolding putAdvance putInRange writerLeft isUnderway isIdle
-put-moves m k reach put word low r h =
+pub put-effect : (k reach slot : ℕ) (put : Put) (word : ℕ) → 1 ≤ k → reach ≤ k → putInRange k put ≡ true → OneEffect k reach (writerLeft k reach (Putting put)) (putAdvance k reach slot put word)
+unfolding putAdvance putInRange writerLeft
+put-effect k reach slot put word low r h =
     let valid = both-left (validPoint (put .point)) (putStageInRange k (put .stage)) h in
-    at-any-stage k reach put low valid m word (put .stage) r refl (both-right (validPoint (put .point)) (putStageInRange k (put .stage)) h)
+    at-any-stage k reach put low valid slot word (put .stage) r refl (both-right (validPoint (put .point)) (putStageInRange k (put .stage)) h)
 
 -- the step whose access stores the reach, and no other, updates the reach
-module _ (m k reach : ℕ) (put : Put) (word : ℕ) where
+module _ (m k reach slot : ℕ) (put : Put) (word : ℕ) where
   searched-reach : (after : Searched) → reachAfter reach (putSearched put after .update) ≡ reach
   unfolding putSearched putAnswered putAt goesOn reachAfter
   searched-reach (Going search) = refl
@@ -115,22 +115,22 @@ module _ (m k reach : ℕ) (put : Put) (word : ℕ) where
       go false true = refl
       go false false = refl
 
-  takes-reach : (index : ℕ) → reachAfter reach (putTakes m reach put index .update) ≡ reachStored reach (putStageAccess m reach put (Chosen index))
+  takes-reach : (index : ℕ) → reachAfter reach (putTakes reach slot put index .update) ≡ reachStored reach (putStageAccess m reach put (Chosen index))
   unfolding exceeds putTakes putStageAccess storeWord ends reachAfter reachStored
   takes-reach index = go (ltb reach index)
     where
-      go : (above : Bool) → reachAfter reach (cond {A = WriterMove} above (record { work = Putting put; update = Reach index; answer = underway }) (ends (Counted index) (placed (positionOf m (put .point) index) index)) .update) ≡ reachStored reach (cond above (StoreReach index) (storeWord m (put .point) index (wordOf (put .point) (put .value))))
+      go : (above : Bool) → reachAfter reach (cond {A = WriterEffect} above (record { work = Putting put; update = Reach index; progress = continues }) (ends (Counted index) (placed slot index)) .update) ≡ reachStored reach (cond above (StoreReach index) (storeWord m (put .point) index (wordOf (put .point) (put .value))))
       go true = refl
       go false = refl
 
-  stage-reach : (stage : PutStage) → reachAfter reach (putStageAdvance m k reach put stage word .update) ≡ reachStored reach (putStageAccess m reach put stage)
+  stage-reach : (stage : PutStage) → reachAfter reach (putStageAdvance k reach slot put stage word .update) ≡ reachStored reach (putStageAccess m reach put stage)
   unfolding putStageAdvance putStageAccess storeWord ends reachAfter reachStored
   stage-reach (Searching search) = searched-reach (searchAdvance reach (put .point) search word)
   stage-reach (Scanning index) = scanned-reach index
   stage-reach (PutStage·Found place) = refl
   stage-reach (Chosen index) = takes-reach index
 
-  pub put-reach : reachAfter reach (putAdvance m k reach put word .update) ≡ reachStored reach (putAccess m reach put)
+  pub put-reach : reachAfter reach (putAdvance k reach slot put word .update) ≡ reachStored reach (putAccess m reach put)
   unfolding putAdvance putAccess
   put-reach = stage-reach (put .stage)
 

@@ -12,14 +12,14 @@ use Rattle.search.specs.declared.Searched.{Searched}
 use Rattle.search.specs.declared.Searched.the-variants.{Going, Answered}
 use Rattle.search.specs.declared.SearchAnswer.{SearchAnswer}
 use Rattle.search.specs.declared.SearchAnswer.the-variants.{Found as SearchAnswer·Found, Unknown}
-use Rattle.answers.specs.Answers.{underway, placed, endedWith}
+use Rattle.answers.specs.Answers.{placed, endedWith, continues}
 use Rattle.slot_words.specs.Word.{wordOf}
 use Rattle.search.specs.Search.{searchAccess, searchAdvance}
-use Rattle.moves.specs.declared.memory.WriterAccess.{WriterAccess}
-use Rattle.moves.specs.declared.memory.WriterAccess.the-variants.{Read, StoreReach}
-use Rattle.moves.specs.declared.update.Update.the-variants.{Nothing, Reach, Counted}
-use Rattle.moves.specs.Memory.{storeWord}
-use Rattle.moves.specs.Moves.{WriterMove, goesOn, ends}
+use Rattle.effects.specs.declared.memory.WriterAccess.{WriterAccess}
+use Rattle.effects.specs.declared.memory.WriterAccess.the-variants.{Read, StoreReach}
+use Rattle.effects.specs.declared.update.Update.the-variants.{Nothing, Reach, Counted}
+use Rattle.effects.specs.Memory.{storeWord}
+use Rattle.effects.specs.Effects.{WriterEffect, goesOn, ends}
 
 -- "If i exceeds the reach"
 unfoldable pub exceeds : ℕ → ℕ → Bool
@@ -38,38 +38,38 @@ unfoldable pub putAccess : ℕ → ℕ → Put → WriterAccess
 putAccess m reach put = putStageAccess m reach put (put .stage)
 
 -- the put goes on at this stage
-unfoldable pub putAt : Put → PutStage → WriterMove
+unfoldable pub putAt : Put → PutStage → WriterEffect
 putAt put stage = goesOn (Putting (record { point = put .point; value = put .value; stage = stage }))
 
 -- "If found, store the new word there. If not, read positions 1 to k"
-unfoldable pub putAnswered : Put → SearchAnswer → WriterMove
+unfoldable pub putAnswered : Put → SearchAnswer → WriterEffect
 putAnswered put (SearchAnswer·Found place) = putAt put (PutStage·Found place)
 putAnswered put Unknown = putAt put (Scanning 1)
 
 -- "search as a lookup does"
-unfoldable pub putSearched : Put → Searched → WriterMove
+unfoldable pub putSearched : Put → Searched → WriterEffect
 putSearched put (Going search) = putAt put (Searching search)
 putSearched put (Answered answer) = putAnswered put answer
 
 -- "up to the first empty one, index i"; "No empty position: 6"
-unfoldable pub putScanned : ℕ → Put → ℕ → ℕ → WriterMove
+unfoldable pub putScanned : ℕ → Put → ℕ → ℕ → WriterEffect
 putScanned k put index word =
     cond (eqb word 0) (putAt put (Chosen index))
     (cond (ltb index k) (putAt put (Scanning (index + 1))) (ends Nothing (endedWith 6)))
 
 -- "If i exceeds the reach, store the reach as i *first*, then store the slot and count index i"
-unfoldable pub putTakes : ℕ → ℕ → Put → ℕ → WriterMove
-putTakes m reach put index =
-    cond (exceeds reach index) (record { work = Putting put; update = Reach index; answer = underway })
-    (ends (Counted index) (placed (positionOf m (put .point) index) index))
+unfoldable pub putTakes : ℕ → ℕ → Put → ℕ → WriterEffect
+putTakes reach slot put index =
+    cond (exceeds reach index) (record { work = Putting put; update = Reach index; progress = continues })
+    (ends (Counted index) (placed slot index))
 
--- part 3, by the stage
-unfoldable pub putStageAdvance : ℕ → ℕ → ℕ → Put → PutStage → ℕ → WriterMove
-putStageAdvance m k reach put (Searching search) word = putSearched put (searchAdvance reach (put .point) search word)
-putStageAdvance m k reach put (Scanning index) word = putScanned k put index word
-putStageAdvance m k reach put (PutStage·Found place) word = ends Nothing (placed (positionOf m (put .point) (place .index)) (place .index))
-putStageAdvance m k reach put (Chosen index) word = putTakes m reach put index
+-- part 3, by the stage; "a put the slot and index": the slot that the step has stored
+unfoldable pub putStageAdvance : ℕ → ℕ → ℕ → Put → PutStage → ℕ → WriterEffect
+putStageAdvance k reach slot put (Searching search) word = putSearched put (searchAdvance reach (put .point) search word)
+putStageAdvance k reach slot put (Scanning index) word = putScanned k put index word
+putStageAdvance k reach slot put (PutStage·Found place) word = ends Nothing (placed slot (place .index))
+putStageAdvance k reach slot put (Chosen index) word = putTakes reach slot put index
 
--- part 3: what follows from the reach, or from the word read or stored
-unfoldable pub putAdvance : ℕ → ℕ → ℕ → Put → ℕ → WriterMove
-putAdvance m k reach put word = putStageAdvance m k reach put (put .stage) word
+-- part 3: what follows from the reach, from the word read, or from the slot stored
+unfoldable pub putAdvance : ℕ → ℕ → ℕ → Put → ℕ → WriterEffect
+putAdvance k reach slot put word = putStageAdvance k reach slot put (put .stage) word

@@ -1,16 +1,17 @@
 // A put's step: search; found, store the new word there; else take the first empty position, the reach
 // stored before the slot where the index exceeds it.
 ghost use mathlib.Core.Path.{_≡_};
-ghost use Rattle.moves.specs.Moves.{paperMoved};
+ghost use Rattle.effects.specs.Effects.{paperEffect};
 ghost use Rattle.put.specs.Put.{putAccess, putAt, putSearched, putAnswered, putScanned, putTakes, putAdvance};
+use answers::Ending;
+use answers::Progress;
 use answers::Spot;
-use answers::WriterAnswer;
-use moves::memory::WriterAccess;
-use moves::memory::store_word;
-use moves::update::Moved;
-use moves::update::Update;
-use moves::update::ended;
-use moves::update::underway;
+use effects::memory::WriterAccess;
+use effects::memory::store_word;
+use effects::update::Effect;
+use effects::update::Update;
+use effects::update::ended;
+use effects::update::underway;
 use record::Put;
 use record::PutStage;
 use record::WriterWork;
@@ -44,9 +45,9 @@ pub fn put_access(put: Put, m: u32, reach: u32) -> WriterAccess
     }
 }
 
-// Part 3: what follows from the reach, or from the word read or stored.
-pub fn put_advance(put: Put, m: u32, k: u32, reach: u32, word: u64) -> Moved
-    ensures { λ r. ⌜ paperMoved r ≡ putAdvance m k reach put word ⌝ }
+// Part 3: what follows from the reach, from the word read, or from the slot stored.
+pub fn put_advance(put: Put, k: u32, reach: u32, slot: u32, word: u64) -> Effect
+    ensures { λ r. ⌜ paperEffect r ≡ putAdvance k reach slot put word ⌝ }
 {
     let stage = put.stage;
     match stage {
@@ -55,20 +56,19 @@ pub fn put_advance(put: Put, m: u32, k: u32, reach: u32, word: u64) -> Moved
         }
         PutStage::Scanning(index) => put_scanned(put, k, index, word),
         PutStage::Found(place) => {
-            let slot = hash::position(m, put.point, place.index);
             let spot = Spot {
                 slot: slot,
                 index: place.index,
             };
-            ended(Update::Nothing, WriterAnswer::Placed(spot))
+            ended(Update::Nothing, Ending::Placed(spot))
         }
-        PutStage::Chosen(index) => put_takes(put, m, reach, index),
+        PutStage::Chosen(index) => put_takes(put, reach, slot, index),
     }
 }
 
 // The put goes on at this stage.
-fn put_at(put: Put, stage: PutStage) -> Moved
-    ensures { λ r. ⌜ paperMoved r ≡ putAt put stage ⌝ }
+fn put_at(put: Put, stage: PutStage) -> Effect
+    ensures { λ r. ⌜ paperEffect r ≡ putAt put stage ⌝ }
 {
     underway(WriterWork::Putting(Put {
         point: put.point,
@@ -77,8 +77,8 @@ fn put_at(put: Put, stage: PutStage) -> Moved
     }))
 }
 
-fn put_searched(put: Put, searched: Searched) -> Moved
-    ensures { λ r. ⌜ paperMoved r ≡ putSearched put searched ⌝ }
+fn put_searched(put: Put, searched: Searched) -> Effect
+    ensures { λ r. ⌜ paperEffect r ≡ putSearched put searched ⌝ }
 {
     match searched {
         Searched::Going(search) => put_at(put, PutStage::Searching(search)),
@@ -87,8 +87,8 @@ fn put_searched(put: Put, searched: Searched) -> Moved
 }
 
 // What the search's answer leads to.
-pub fn put_answered(put: Put, answer: SearchAnswer) -> Moved
-    ensures { λ r. ⌜ paperMoved r ≡ putAnswered put answer ⌝ }
+pub fn put_answered(put: Put, answer: SearchAnswer) -> Effect
+    ensures { λ r. ⌜ paperEffect r ≡ putAnswered put answer ⌝ }
 {
     let SearchAnswer::Found(place) = answer else {
         return put_at(put, PutStage::Scanning(1));
@@ -97,8 +97,8 @@ pub fn put_answered(put: Put, answer: SearchAnswer) -> Moved
 }
 
 // A position of the second search has been read.
-fn put_scanned(put: Put, k: u32, index: u32, word: u64) -> Moved
-    ensures { λ r. ⌜ paperMoved r ≡ putScanned k put index word ⌝ }
+fn put_scanned(put: Put, k: u32, index: u32, word: u64) -> Effect
+    ensures { λ r. ⌜ paperEffect r ≡ putScanned k put index word ⌝ }
 {
     if word == 0 {
         return put_at(put, PutStage::Chosen(index));
@@ -107,24 +107,23 @@ fn put_scanned(put: Put, k: u32, index: u32, word: u64) -> Moved
         let next = index + 1;
         return put_at(put, PutStage::Scanning(next));
     }
-    ended(Update::Nothing, WriterAnswer::NoPerch)
+    ended(Update::Nothing, Ending::NoPerch)
 }
 
 // The first empty position is taken: the reach first, where the index exceeds it.
-fn put_takes(put: Put, m: u32, reach: u32, index: u32) -> Moved
-    ensures { λ r. ⌜ paperMoved r ≡ putTakes m reach put index ⌝ }
+fn put_takes(put: Put, reach: u32, slot: u32, index: u32) -> Effect
+    ensures { λ r. ⌜ paperEffect r ≡ putTakes reach slot put index ⌝ }
 {
     if reach < index {
-        return Moved {
+        return Effect {
             work: WriterWork::Putting(put),
             update: Update::Reach(index),
-            answer: WriterAnswer::Underway,
+            progress: Progress::Underway,
         };
     }
-    let slot = hash::position(m, put.point, index);
     let spot = Spot {
         slot: slot,
         index: index,
     };
-    ended(Update::Counted(index), WriterAnswer::Placed(spot))
+    ended(Update::Counted(index), Ending::Placed(spot))
 }

@@ -1,14 +1,16 @@
 // Readers at work, for a benchmark from outside: 16 or 4096 slots by the first letter of standard
 // input, S or L, and 10 to the power of the digit behind it turns. Prints the steps made and a sum of
 // what they answered.
-use answers::ReaderAnswer;
+use answers::Ending;
+use answers::StepAnswer;
+use answers::StepResult;
+use reader_starts::start_lookup;
+use reader_starts::start_walk;
 use reader_step::step_reader;
 use record::Record;
 use record::parts::fresh_record;
 use slot_words::word::value_of;
 use slot_words::word::word_of;
-use table::start_lookup;
-use table::start_walk;
 
 fn main() {
     let mut input = [0u8; 2];
@@ -115,22 +117,30 @@ fn turn(tally: Tally, slots: &[u64], i: u32) -> Tally {
     let answer = stepped.answer;
     let after = stepped.panel;
     match answer {
-        ReaderAnswer::Underway => counted(after, tally.steps, tally.sum, 1),
-        ReaderAnswer::Found(value) => counted(after, tally.steps, tally.sum, value as u64),
-        ReaderAnswer::Unknown => counted(after, tally.steps, tally.sum, 7),
-        ReaderAnswer::Word(word) => counted(after, tally.steps, tally.sum, value_of(word) as u64),
-        ReaderAnswer::LastWord(word) => counted(
-            after,
-            tally.steps,
-            tally.sum,
-            value_of(word) as u64,
-        ),
-        ReaderAnswer::Refused(_) => Tally {
+        StepAnswer::Stepped(result) => counted(after, tally.steps, tally.sum, given(result)),
+        StepAnswer::Refused(_) => Tally {
             panel: started(after, slots, reader, i),
             steps: tally.steps,
             sum: tally.sum,
         },
     }
+}
+
+// What a step adds to the sum: the value that it gave; 1 while the lookup goes on, 7 for an unknown point.
+fn given(result: StepResult) -> u64 {
+    match result {
+        StepResult::Underway => 1,
+        StepResult::Ended(ending) => found(ending),
+        StepResult::Walked(word) => value_of(word) as u64,
+        StepResult::WalkedLast(word) => value_of(word) as u64,
+    }
+}
+
+fn found(ending: Ending) -> u64 {
+    let Ending::LookedUp(value) = ending else {
+        return 7;
+    };
+    value as u64
 }
 
 fn counted(panel: Record, steps: u32, sum: u64, more: u64) -> Tally {

@@ -1,6 +1,6 @@
 -- Document 01, "Steps": a reader's step of a lookup or of a walk.
 use Prim.Native.Nat.{ℕ, _+_}
-use mathlib.Core.Bool.{Bool, true, false, cond, not}
+use mathlib.Core.Bool.{cond, not}
 use mathlib.Core.List.{List}
 use lib.Dec.{ltb}
 use lib.ListN.{length}
@@ -11,6 +11,7 @@ use Rattle.record.specs.declared.Walk.{Walk}
 use Rattle.record.specs.declared.ReaderWork.{ReaderWork}
 use Rattle.record.specs.declared.ReaderWork.the-variants.{Idle, LookingUp, Walking}
 use Rattle.record.specs.Parts.{workOf, withWork}
+use Rattle.record.specs.Idle.{isReaderIdle}
 use Rattle.record_ranges.specs.Ranges.{inRange}
 use Rattle.search.specs.declared.access.ReadAccess.{ReadAccess}
 use Rattle.search.specs.declared.access.ReadAccess.the-variants.{Nothing, Slot}
@@ -18,16 +19,10 @@ use Rattle.search.specs.declared.Searched.{Searched}
 use Rattle.search.specs.declared.Searched.the-variants.{Going, Answered}
 use Rattle.search.specs.declared.SearchAnswer.{SearchAnswer}
 use Rattle.search.specs.declared.SearchAnswer.the-variants.{Found, Unknown}
-use Rattle.reader_step.specs.declared.Moved.{Moved}
-use Rattle.answers.specs.Answers.{Answer, underway, lookedUp, endedWith, walked, walkedLast, refused, Outcome, outcome, unlessRefused, paperReader}
+use Rattle.reader_step.specs.declared.Effect.{Effect}
+use Rattle.answers.specs.Answers.{Ending, lookedUp, endedWith, Answer, underway, ended, walked, walkedLast, Outcome, outcome, unlessRefused, paperResult}
 use Rattle.search.specs.Access.{wordRead}
 use Rattle.search.specs.Search.{searchAccess, searchAdvance}
-
--- "A reader is idle, looking up or walking"
-unfoldable pub isIdle : ReaderWork → Bool
-isIdle Idle = true
-isIdle (LookingUp lookup) = false
-isIdle (Walking walk) = false
 
 -- part 1: the access that comes next; of a walk "slots 0 to m − 1, one a step"
 unfoldable pub readerAccess : ℕ → ReaderWork → ReadAccess
@@ -35,54 +30,54 @@ readerAccess m Idle = Nothing
 readerAccess m (LookingUp lookup) = searchAccess m (lookup .point) (lookup .search)
 readerAccess m (Walking walk) = Slot (walk .next)
 
--- a reader's work after a step, and the answer
-pub record ReaderMove : Type 0 where
+-- what a reader's step comes to: its work after it, and the answer
+pub record ReaderEffect : Type 0 where
   pub work : ReaderWork
   pub answer : Answer
 
 -- the same in the code's enum
-abbrev pub paperMoved : Moved → ReaderMove
-paperMoved moved = record { work = moved .work; answer = paperReader (moved .answer) }
+abbrev pub paperEffect : Effect → ReaderEffect
+paperEffect effect = record { work = effect .work; answer = paperResult (effect .result) }
 
 -- a lookup ends "with its value", or "with 7"
-unfoldable pub lookupAnswer : SearchAnswer → Answer
-lookupAnswer (Found place) = lookedUp (place .value)
-lookupAnswer Unknown = endedWith 7
+unfoldable pub lookupEnding : SearchAnswer → Ending
+lookupEnding (Found place) = lookedUp (place .value)
+lookupEnding Unknown = endedWith 7
 
 -- a lookup goes on, or ends
-unfoldable pub lookupMove : ℕ → Searched → ReaderMove
-lookupMove point (Going search) = record { work = LookingUp (record { point = point; search = search }); answer = underway }
-lookupMove point (Answered answer) = record { work = Idle; answer = lookupAnswer answer }
+unfoldable pub lookupEffect : ℕ → Searched → ReaderEffect
+lookupEffect point (Going search) = record { work = LookingUp (record { point = point; search = search }); answer = underway }
+lookupEffect point (Answered answer) = record { work = Idle; answer = ended (lookupEnding answer) }
 
 -- part 3 of a lookup's step
-unfoldable pub lookupAdvance : ℕ → Lookup → ℕ → ReaderMove
-lookupAdvance reach lookup word = lookupMove (lookup .point) (searchAdvance reach (lookup .point) (lookup .search) word)
+unfoldable pub lookupAdvance : ℕ → Lookup → ℕ → ReaderEffect
+lookupAdvance reach lookup word = lookupEffect (lookup .point) (searchAdvance reach (lookup .point) (lookup .search) word)
 
 -- part 3 of a walk's step: "each walk step gives the word read, and the m-th also ends the walk"
-unfoldable pub walkAdvance : ℕ → Walk → ℕ → ReaderMove
+unfoldable pub walkAdvance : ℕ → Walk → ℕ → ReaderEffect
 walkAdvance m walk word =
     cond (ltb (walk .next + 1) m) (record { work = Walking (record { next = walk .next + 1 }); answer = walked word })
     (record { work = Idle; answer = walkedLast word })
 
--- part 3: what follows from the reach or from the word read
-unfoldable pub readerAdvance : ℕ → ℕ → ReaderWork → ℕ → ReaderMove
-readerAdvance m reach Idle word = record { work = Idle; answer = refused 5 }
+-- part 3: what follows from the reach or from the word read; a reader without work never comes to it, since 5 is judged before
+unfoldable pub readerAdvance : ℕ → ℕ → ReaderWork → ℕ → ReaderEffect
+readerAdvance m reach Idle word = record { work = Idle; answer = underway }
 readerAdvance m reach (LookingUp lookup) word = lookupAdvance reach lookup word
 readerAdvance m reach (Walking walk) word = walkAdvance m walk word
 
 -- "reader's step 1, 3, 5"
 unfoldable pub stepRefusal : ℕ → Record → ℕ → ℕ
 stepRefusal lent panel reader =
-    refuseIf (not (inRange lent panel)) 1 (refuseIf (ltb 15 reader) 3 (refuseIf (isIdle (workOf panel reader)) 5 0))
+    refuseIf (not (inRange lent panel)) 1 (refuseIf (ltb 15 reader) 3 (refuseIf (isReaderIdle (workOf panel reader)) 5 0))
 
 -- the reader's new work in its place, and the answer
-unfoldable pub moved : Record → List ℕ → ℕ → ReaderMove → Outcome
-moved panel slots reader move = outcome (withWork panel reader (move .work)) slots (move .answer)
+unfoldable pub afterStep : Record → List ℕ → ℕ → ReaderEffect → Outcome
+afterStep panel slots reader effect = outcome (withWork panel reader (effect .work)) slots (effect .answer)
 
 -- the three parts of the step of a reader with this work
 unfoldable pub readerRuns : Record → List ℕ → ℕ → ReaderWork → Outcome
 readerRuns panel slots reader work =
-    moved panel slots reader (readerAdvance (panel .m) (panel .reach) work (wordRead slots (readerAccess (panel .m) work)))
+    afterStep panel slots reader (readerAdvance (panel .m) (panel .reach) work (wordRead slots (readerAccess (panel .m) work)))
 
 -- a reader's step
 unfoldable pub stepReader : Record → List ℕ → ℕ → Outcome

@@ -2,14 +2,19 @@
 // what follows from the word (pure).
 ghost use mathlib.Core.Path.{_≡_};
 ghost use Rattle.refusal.specs.Refusals.{paperJudged};
-ghost use Rattle.answers.specs.Answers.{paperReader, outcome};
-ghost use Rattle.reader_step.specs.Reader.{isIdle, readerAccess, paperMoved, lookupAnswer, lookupAdvance, walkAdvance, readerAdvance, stepRefusal, stepReader};
+ghost use Rattle.answers.specs.Answers.{paperEnding, paperStep, outcome};
+ghost use Rattle.answers.specs.declared.StepAnswer.the-variants.{Stepped};
+ghost use Rattle.reader_step.specs.Reader.{readerAccess, paperEffect, lookupEnding, lookupAdvance, walkAdvance, readerAdvance, stepRefusal, stepReader};
 ghost use Rattle.record.specs.Parts.{withWork};
-use answers::ReaderAnswer;
+use answers::Ending;
+use answers::StepAnswer;
+use answers::StepOutcome;
+use answers::StepResult;
 use record::Lookup;
 use record::ReaderWork;
 use record::Record;
 use record::Walk;
+use record::idle::is_reader_idle;
 use record::parts::with_work;
 use record::parts::work_of;
 use record_ranges::is_in_range;
@@ -22,30 +27,14 @@ use search::access::word_read;
 use search::search_access;
 use search::search_advance;
 
-// What a reader's step leaves: the record, and the answer.
-pub struct ReaderOutcome {
-    pub panel: Record,
-    pub answer: ReaderAnswer,
-}
-
-// A reader's work after a step, and the answer.
-pub struct Moved {
+// What a reader's step comes to: its work after it, and what it gives.
+pub struct Effect {
     pub work: ReaderWork,
-    pub answer: ReaderAnswer,
-}
-
-pub fn has_no_work(work: ReaderWork) -> bool
-    ensures { λ r. ⌜ r ≡ isIdle work ⌝ }
-{
-    match work {
-        ReaderWork::Idle => true,
-        ReaderWork::LookingUp(_) => false,
-        ReaderWork::Walking(_) => false,
-    }
+    pub result: StepResult,
 }
 
 // Part 1: the access that comes next.
-pub fn reader_access(work: ReaderWork, m: u32) -> ReadAccess
+fn reader_access(work: ReaderWork, m: u32) -> ReadAccess
     ensures { λ r. ⌜ r ≡ readerAccess m work ⌝ }
 {
     match work {
@@ -58,63 +47,64 @@ pub fn reader_access(work: ReaderWork, m: u32) -> ReadAccess
     }
 }
 
-// Part 3: what follows from the reach or from the word read.
-pub fn reader_advance(work: ReaderWork, m: u32, reach: u32, word: u64) -> Moved
-    ensures { λ r. ⌜ paperMoved r ≡ readerAdvance m reach work word ⌝ }
+// Part 3: what follows from the reach or from the word read. A reader without work never comes to it: its
+// step is refused with 5.
+fn reader_advance(work: ReaderWork, m: u32, reach: u32, word: u64) -> Effect
+    ensures { λ r. ⌜ paperEffect r ≡ readerAdvance m reach work word ⌝ }
 {
     match work {
-        ReaderWork::Idle => Moved {
+        ReaderWork::Idle => Effect {
             work: ReaderWork::Idle,
-            answer: ReaderAnswer::Refused(Refusal::Idle),
+            result: StepResult::Underway,
         },
         ReaderWork::LookingUp(lookup) => lookup_advance(lookup, reach, word),
         ReaderWork::Walking(walk) => walk_advance(walk, m, word),
     }
 }
 
-fn lookup_advance(lookup: Lookup, reach: u32, word: u64) -> Moved
-    ensures { λ r. ⌜ paperMoved r ≡ lookupAdvance reach lookup word ⌝ }
+fn lookup_advance(lookup: Lookup, reach: u32, word: u64) -> Effect
+    ensures { λ r. ⌜ paperEffect r ≡ lookupAdvance reach lookup word ⌝ }
 {
     let search = lookup.search;
     match search_advance(search, lookup.point, reach, word) {
-        Searched::Going(next) => Moved {
+        Searched::Going(next) => Effect {
             work: ReaderWork::LookingUp(Lookup {
                 point: lookup.point,
                 search: next,
             }),
-            answer: ReaderAnswer::Underway,
+            result: StepResult::Underway,
         },
-        Searched::Answered(answer) => Moved {
+        Searched::Answered(answer) => Effect {
             work: ReaderWork::Idle,
-            answer: lookup_answer(answer),
+            result: StepResult::Ended(lookup_ending(answer)),
         },
     }
 }
 
 // What a lookup ends with, by its search's answer.
-pub fn lookup_answer(answer: SearchAnswer) -> ReaderAnswer
-    ensures { λ r. ⌜ paperReader r ≡ lookupAnswer answer ⌝ }
+pub fn lookup_ending(answer: SearchAnswer) -> Ending
+    ensures { λ r. ⌜ paperEnding r ≡ lookupEnding answer ⌝ }
 {
     match answer {
-        SearchAnswer::Found(place) => ReaderAnswer::Found(place.value),
-        SearchAnswer::Unknown => ReaderAnswer::Unknown,
+        SearchAnswer::Found(place) => Ending::LookedUp(place.value),
+        SearchAnswer::Unknown => Ending::Unknown,
     }
 }
 
-fn walk_advance(walk: Walk, m: u32, word: u64) -> Moved
-    ensures { λ r. ⌜ paperMoved r ≡ walkAdvance m walk word ⌝ }
+fn walk_advance(walk: Walk, m: u32, word: u64) -> Effect
+    ensures { λ r. ⌜ paperEffect r ≡ walkAdvance m walk word ⌝ }
 {
     let wide = walk.next as u64 + 1;
     if wide < m as u64 {
         let next = walk.next + 1;
-        Moved {
+        Effect {
             work: ReaderWork::Walking(Walk { next: next }),
-            answer: ReaderAnswer::Word(word),
+            result: StepResult::Walked(word),
         }
     } else {
-        Moved {
+        Effect {
             work: ReaderWork::Idle,
-            answer: ReaderAnswer::LastWord(word),
+            result: StepResult::WalkedLast(word),
         }
     }
 }
@@ -129,32 +119,32 @@ fn judge_step(panel: Record, lent: usize, reader: u32) -> Judged
     if 15 < reader {
         return Judged::Refused(Refusal::Reader);
     }
-    if has_no_work(work_of(panel, reader)) {
+    if is_reader_idle(work_of(panel, reader)) {
         return Judged::Refused(Refusal::Idle);
     }
     Judged::Allowed
 }
 
 // The reader's new work in its place, and the answer.
-fn finish(panel: Record, reader: u32, next: Moved) -> ReaderOutcome
-    ensures { λ r. ⌜ (r .panel ≡ withWork panel reader (next .work)) × (r .answer ≡ next .answer) ⌝ }
+fn finish(panel: Record, reader: u32, next: Effect) -> StepOutcome
+    ensures { λ r. ⌜ (r .panel ≡ withWork panel reader (next .work)) × (r .answer ≡ Stepped (next .result)) ⌝ }
 {
     let work = next.work;
-    let answer = next.answer;
-    ReaderOutcome {
+    let result = next.result;
+    StepOutcome {
         panel: with_work(panel, reader, work),
-        answer: answer,
+        answer: StepAnswer::Stepped(result),
     }
 }
 
 // The next step of a reader's lookup or walk.
-pub fn step_reader(panel: Record, slots: &[u64], reader: u32) -> ReaderOutcome
-    ensures { λ r. ⌜ outcome (r .panel) (now (slots .entry)) (paperReader (r .answer)) ≡ stepReader panel (now (slots .entry)) reader ⌝ }
+pub fn step_reader(panel: Record, slots: &[u64], reader: u32) -> StepOutcome
+    ensures { λ r. ⌜ outcome (r .panel) (now (slots .entry)) (paperStep (r .answer)) ≡ stepReader panel (now (slots .entry)) reader ⌝ }
 {
     match judge_step(panel, slots.len(), reader) {
-        Judged::Refused(refusal) => ReaderOutcome {
+        Judged::Refused(refusal) => StepOutcome {
             panel: panel,
-            answer: ReaderAnswer::Refused(refusal),
+            answer: StepAnswer::Refused(refusal),
         },
         Judged::Allowed => {
             let work = work_of(panel, reader);

@@ -7,44 +7,26 @@ use lib.Seq.{getD-set-same, getD-set-other, set-getD, set-set}
 use Rattle.record.specs.declared.Record.{Record}
 use Rattle.record.specs.declared.Reader.{Reader}
 use Rattle.record.specs.declared.ReaderWork.{ReaderWork}
-use Rattle.record.specs.Parts.{idleReader, workOf, withWork}
+use Rattle.record.specs.Parts.{idleReader, readerWith, workOf, withReaders, withWork}
 
 pub work-replaced : (panel : Record) (reader : ℕ) (work : ReaderWork) → reader < length (panel .readers) → workOf (withWork panel reader work) reader ≡ work
-unfolding workOf withWork
+unfolding workOf withWork withReaders
 work-replaced panel reader work h =
-    ap (λ (r : Reader). r .work) (getD-set-same (panel .readers) reader (record { work = work }) idleReader h)
+    ap (λ (r : Reader). r .work) (getD-set-same (panel .readers) reader (readerWith work) idleReader h)
 
 pub others-stay : (panel : Record) (reader other : ℕ) (work : ReaderWork) → other ≢ reader → workOf (withWork panel reader work) other ≡ workOf panel other
-unfolding workOf withWork
+unfolding workOf withWork withReaders
 others-stay panel reader other work h =
-    ap (λ (r : Reader). r .work) (getD-set-other (panel .readers) reader other (record { work = work }) idleReader h)
+    ap (λ (r : Reader). r .work) (getD-set-other (panel .readers) reader other (readerWith work) idleReader h)
 
 pub replaced-twice : (panel : Record) (reader : ℕ) (first second : ReaderWork) → withWork (withWork panel reader first) reader second ≡ withWork panel reader second
-unfolding withWork
+unfolding withWork withReaders
 replaced-twice panel reader first second =
-    let same = set-set (panel .readers) reader (record { work = first }) (record { work = second }) in
-    λ j.
-    record {
-      m = panel .m;
-      k = panel .k;
-      reach = panel .reach;
-      counts = panel .counts;
-      writer = panel .writer;
-      readers = same j;
-      stations = panel .stations;
-    }
+    let same = set-set (panel .readers) reader (readerWith first) (readerWith second) in
+    ap (withReaders panel) same
 
 pub same-work : (panel : Record) (reader : ℕ) (work : ReaderWork) → workOf panel reader ≡ work → withWork panel reader work ≡ panel
-unfolding withWork workOf
+unfolding withWork withReaders workOf
 same-work panel reader work e =
-    let same = ap (λ (w : ReaderWork). set (panel .readers) reader (record { work = w })) (sym e) ∙ set-getD (panel .readers) reader idleReader in
-    λ j.
-    record {
-      m = panel .m;
-      k = panel .k;
-      reach = panel .reach;
-      counts = panel .counts;
-      writer = panel .writer;
-      readers = same j;
-      stations = panel .stations;
-    }
+    let same = ap (λ (w : ReaderWork). set (panel .readers) reader (readerWith w)) (sym e) ∙ set-getD (panel .readers) reader idleReader in
+    ap (withReaders panel) same

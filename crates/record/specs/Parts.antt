@@ -6,14 +6,23 @@ use Rattle.record.specs.declared.Record.{Record}
 use Rattle.record.specs.declared.Reader.{Reader}
 use Rattle.record.specs.declared.ReaderWork.{ReaderWork}
 use Rattle.record.specs.declared.ReaderWork.the-variants.{Idle as ReaderWork·Idle}
+use Rattle.record.specs.declared.Writer.{Writer}
 use Rattle.record.specs.declared.WriterWork.{WriterWork}
 use Rattle.record.specs.declared.WriterWork.the-variants.{Idle as WriterWork·Idle}
 use Rattle.record.specs.declared.Station.{Station}
 use Rattle.record.specs.declared.CommandAnswer.the-variants.{Value}
 
+-- a reader with this work
+abbrev pub readerWith : ReaderWork → Reader
+readerWith work = record { work = work }
+
+-- the writer with this work
+abbrev pub writerWith : WriterWork → Writer
+writerWith work = record { work = work }
+
 -- a reader without work
 abbrev pub idleReader : Reader
-idleReader = record { work = ReaderWork·Idle }
+idleReader = readerWith ReaderWork·Idle
 
 -- "Each station's last number starts at 0"
 abbrev pub unheardStation : Station
@@ -27,39 +36,9 @@ freshRecord m k =
       k = k;
       reach = 0;
       counts = replicate 64 0;
-      writer = WriterWork·Idle;
+      writer = writerWith WriterWork·Idle;
       readers = replicate 16 idleReader;
       stations = replicate 32 unheardStation;
-    }
-
--- a reader's work; above 15 there is none
-unfoldable pub workOf : Record → ℕ → ReaderWork
-workOf panel reader = getD (panel .readers) reader idleReader .work
-
--- the record with that reader's work replaced; above 15 the record as it is
-unfoldable pub withWork : Record → ℕ → ReaderWork → Record
-withWork panel reader work =
-    record {
-      m = panel .m;
-      k = panel .k;
-      reach = panel .reach;
-      counts = panel .counts;
-      writer = panel .writer;
-      readers = set (panel .readers) reader (record { work = work });
-      stations = panel .stations;
-    }
-
--- the record with the writer's work replaced
-unfoldable pub withWriter : Record → WriterWork → Record
-withWriter panel work =
-    record {
-      m = panel .m;
-      k = panel .k;
-      reach = panel .reach;
-      counts = panel .counts;
-      writer = work;
-      readers = panel .readers;
-      stations = panel .stations;
     }
 
 -- the record with the reach replaced
@@ -74,6 +53,66 @@ withReach panel reach =
       readers = panel .readers;
       stations = panel .stations;
     }
+
+-- the record with the counts replaced
+unfoldable pub withCounts : Record → List ℕ → Record
+withCounts panel counts =
+    record {
+      m = panel .m;
+      k = panel .k;
+      reach = panel .reach;
+      counts = counts;
+      writer = panel .writer;
+      readers = panel .readers;
+      stations = panel .stations;
+    }
+
+-- the record with the writer's work replaced
+unfoldable pub withWriter : Record → WriterWork → Record
+withWriter panel work =
+    record {
+      m = panel .m;
+      k = panel .k;
+      reach = panel .reach;
+      counts = panel .counts;
+      writer = writerWith work;
+      readers = panel .readers;
+      stations = panel .stations;
+    }
+
+-- the record with the readers replaced
+unfoldable pub withReaders : Record → List Reader → Record
+withReaders panel readers =
+    record {
+      m = panel .m;
+      k = panel .k;
+      reach = panel .reach;
+      counts = panel .counts;
+      writer = panel .writer;
+      readers = readers;
+      stations = panel .stations;
+    }
+
+-- the record with the stations replaced
+unfoldable pub withStations : Record → List Station → Record
+withStations panel stations =
+    record {
+      m = panel .m;
+      k = panel .k;
+      reach = panel .reach;
+      counts = panel .counts;
+      writer = panel .writer;
+      readers = panel .readers;
+      stations = stations;
+    }
+
+-- a reader's work; above 15 there is none
+unfoldable pub workOf : Record → ℕ → ReaderWork
+workOf panel reader = getD (panel .readers) reader idleReader .work
+
+-- the record with that reader's work replaced; above 15 the record as it is
+unfoldable pub withWork : Record → ℕ → ReaderWork → Record
+withWork panel reader work = withReaders panel (set (panel .readers) reader (readerWith work))
 
 -- the element of that number, counted from 1; of another number what stands for none
 unfoldable pub numbered : {A : Type 0} → List A → ℕ → A → A
@@ -91,16 +130,7 @@ countOf panel index = numbered (panel .counts) index 0
 
 -- the record with that index's count replaced
 unfoldable pub withCount : Record → ℕ → ℕ → Record
-withCount panel index count =
-    record {
-      m = panel .m;
-      k = panel .k;
-      reach = panel .reach;
-      counts = withNumbered (panel .counts) index count;
-      writer = panel .writer;
-      readers = panel .readers;
-      stations = panel .stations;
-    }
+withCount panel index count = withCounts panel (withNumbered (panel .counts) index count)
 
 -- "for stations 1 to 32 the last command with its answer"
 unfoldable pub stationOf : Record → ℕ → Station
@@ -108,13 +138,4 @@ stationOf panel station = numbered (panel .stations) station unheardStation
 
 -- the record with that station's last command replaced
 unfoldable pub withStation : Record → ℕ → Station → Record
-withStation panel station last =
-    record {
-      m = panel .m;
-      k = panel .k;
-      reach = panel .reach;
-      counts = panel .counts;
-      writer = panel .writer;
-      readers = panel .readers;
-      stations = withNumbered (panel .stations) station last;
-    }
+withStation panel station last = withStations panel (withNumbered (panel .stations) station last)

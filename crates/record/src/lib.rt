@@ -1,8 +1,10 @@
 // Document 01's record: one value that the main loop keeps and every step changes. Here are its types;
-// `parts` makes records and reads and replaces their parts.
+// `parts` makes records and reads and replaces their parts; `idle` says which party has no work.
+pub mod idle;
 pub mod parts;
 
-// The record. A value of it is called `panel` everywhere, since the proof language reserves the word.
+// The record. A call's parameter of this type is called `panel`, since the proof language reserves the
+// word.
 pub struct Record {
     // the number of slots
     pub m: u32,
@@ -12,7 +14,7 @@ pub struct Record {
     pub reach: u32,
     // at i − 1: how many stored points use index i; those above k are no field
     pub counts: [u32; 64],
-    pub writer: WriterWork,
+    pub writer: Writer,
     pub readers: [Reader; 16],
     // at n − 1: the last command of station n
     pub stations: [Station; 32],
@@ -56,6 +58,10 @@ pub struct Lookup {
 pub struct Walk {
     // the slot that is read next
     pub next: u32,
+}
+
+pub struct Writer {
+    pub work: WriterWork,
 }
 
 pub enum WriterWork {

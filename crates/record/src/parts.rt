@@ -7,6 +7,7 @@ use crate::Reader;
 use crate::ReaderWork;
 use crate::Record;
 use crate::Station;
+use crate::Writer;
 use crate::WriterWork;
 
 // A station that sent no command yet.
@@ -37,7 +38,9 @@ pub fn fresh_record(m: u32, k: u32) -> Record
         k: k,
         reach: 0,
         counts: counts,
-        writer: WriterWork::Idle,
+        writer: Writer {
+            work: WriterWork::Idle,
+        },
         readers: readers,
         stations: stations,
     }
@@ -70,18 +73,10 @@ pub fn with_work(panel: Record, reader: u32, work: ReaderWork) -> Record
 pub fn with_writer(panel: Record, work: WriterWork) -> Record
     ensures { λ r. ⌜ r ≡ withWriter panel work ⌝ }
 {
-    let counts = panel.counts;
-    let readers = panel.readers;
-    let stations = panel.stations;
-    Record {
-        m: panel.m,
-        k: panel.k,
-        reach: panel.reach,
-        counts: counts,
-        writer: work,
-        readers: readers,
-        stations: stations,
-    }
+    let writer = Writer { work: work };
+    let mut next = panel;
+    next.writer = writer;
+    next
 }
 
 // The record with the reach replaced.

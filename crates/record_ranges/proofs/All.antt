@@ -7,8 +7,8 @@ use native.Mathlib.Numerals.{add-one}
 use native.Mathlib.Omega.{arith}
 use lib.ListN.{length, getD, take, drop, set, replicate, length-take, drop-of-length-le}
 use lib.Seq.{drop-cons, getD-take}
-use Rattle.refusal.specs.Judging.{both}
-use Rattle.refusal.proofs.Laws.{both-left, both-right, both-true}
+use Rattle.conditions.specs.Conditions.{both}
+use Rattle.conditions.proofs.ConditionLaws.{both-left, both-right, both-true}
 use Rattle.record_ranges.specs.Ranges.{all}
 
 module _ {A : Type 0} (test : A → Bool) where

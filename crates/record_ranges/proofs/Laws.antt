@@ -7,13 +7,13 @@ use native.Mathlib.Omega.{arith}
 use borrow.Author.Tests.{leb-true, le-leb, eqb-true}
 use lib.Dec.{leb, eqb, leb·zero}
 use lib.ListN.{replicate}
-use Rattle.refusal.specs.Judging.{both, either, within}
-use Rattle.refusal.proofs.Laws.{both-left, both-right, both-true, within-low, within-high}
+use Rattle.conditions.specs.Conditions.{both, either, within}
+use Rattle.conditions.proofs.ConditionLaws.{both-left, both-right, both-true, within-low, within-high}
 use Rattle.record.specs.declared.Record.{Record}
 use Rattle.record.specs.declared.ReaderWork.{ReaderWork}
 use Rattle.record.specs.declared.WriterWork.{WriterWork}
 use Rattle.record.specs.declared.Station.{Station}
-use Rattle.record.specs.Parts.{idleReader, freshRecord, workOf, withWork, withWriter, withReach, countOf, withCount, withStation}
+use Rattle.record.specs.Parts.{idleReader, freshRecord, workOf, withWork, withWriter, withReach, countOf, withCount, withStation, withCounts, withReaders, withStations}
 use Rattle.record_ranges.specs.Ranges.{all, sizesInRange, countsInRange, readerInRange, readersInRange, stationInRange, stationsInRange, inRange}
 use Rattle.work_ranges.specs.WorkRanges.{workInRange, writerInRange}
 use Rattle.record_ranges.proofs.All.{all-at, all-set, all-take, all-replicate}
@@ -46,7 +46,7 @@ pub record Fields (lent : ℕ) (panel : Record) : Type 0 where
   pub sizes-fit : sizesInRange (panel .m) (panel .k) lent ≡ true
   pub reach-fits : panel .reach ≤ panel .k
   pub counts-fit : countsInRange (panel .m) (panel .k) (panel .counts) ≡ true
-  pub writer-fits : writerInRange (panel .k) (panel .writer) ≡ true
+  pub writer-fits : writerInRange (panel .k) (panel .writer .work) ≡ true
   pub readers-fit : readersInRange (panel .m) (panel .k) (panel .readers) ≡ true
   pub stations-fit : stationsInRange (panel .stations) ≡ true
 
@@ -57,12 +57,12 @@ module _ (lent : ℕ) (panel : Record) where
       let a = both-right (sizesInRange (panel .m) (panel .k) lent) _ h in
       let b = both-right (leb (panel .reach) (panel .k)) _ a in
       let c = both-right (countsInRange (panel .m) (panel .k) (panel .counts)) _ b in
-      let d = both-right (writerInRange (panel .k) (panel .writer)) _ c in
+      let d = both-right (writerInRange (panel .k) (panel .writer .work)) _ c in
       record {
         sizes-fit = both-left (sizesInRange (panel .m) (panel .k) lent) _ h;
         reach-fits = leb-true (panel .reach) (panel .k) (both-left (leb (panel .reach) (panel .k)) _ a);
         counts-fit = both-left (countsInRange (panel .m) (panel .k) (panel .counts)) _ b;
-        writer-fits = both-left (writerInRange (panel .k) (panel .writer)) _ c;
+        writer-fits = both-left (writerInRange (panel .k) (panel .writer .work)) _ c;
         readers-fit = both-left (readersInRange (panel .m) (panel .k) (panel .readers)) _ d;
         stations-fit = both-right (readersInRange (panel .m) (panel .k) (panel .readers)) _ d;
       }
@@ -79,7 +79,7 @@ module _ (lent : ℕ) (panel : Record) where
   work-in-range reader h = all-at (readerInRange (panel .m) (panel .k)) (panel .readers) reader idleReader (fields h .readers-fit) refl
 
   readers-replaced : (reader : ℕ) (work : ReaderWork) → readersInRange (panel .m) (panel .k) (panel .readers) ≡ true → workInRange (panel .m) (panel .k) work ≡ true → readersInRange (panel .m) (panel .k) (withWork panel reader work .readers) ≡ true
-  unfolding readersInRange readerInRange withWork
+  unfolding readersInRange readerInRange withWork withReaders
   readers-replaced reader work h e = all-set (readerInRange (panel .m) (panel .k)) (panel .readers) reader (record { work = work }) h e
 
   -- the range test from its parts
@@ -93,7 +93,7 @@ module _ (lent : ℕ) (panel : Record) where
 -- a record in range stays so if what replaces a part of it is in range
 module _ (lent : ℕ) (panel : Record) (h : inRange lent panel ≡ true) where
   pub with-work-in-range : (reader : ℕ) (work : ReaderWork) → workInRange (panel .m) (panel .k) work ≡ true → inRange lent (withWork panel reader work) ≡ true
-  unfolding withWork
+  unfolding withWork withReaders
   with-work-in-range reader work e =
       let f = fields lent panel h in
       in-range lent (withWork panel reader work)
@@ -135,7 +135,7 @@ module _ (lent : ℕ) (panel : Record) (h : inRange lent panel ≡ true) where
       })
 
   pub with-count-in-range : (index count : ℕ) → count ≤ panel .m → inRange lent (withCount panel index count) ≡ true
-  unfolding withCount countsInRange
+  unfolding withCount withCounts countsInRange
   with-count-in-range index count e =
       let f = fields lent panel h in
       in-range lent (withCount panel index count)
@@ -149,7 +149,7 @@ module _ (lent : ℕ) (panel : Record) (h : inRange lent panel ≡ true) where
       })
 
   pub with-station-in-range : (station : ℕ) (last : Station) → stationInRange last ≡ true → inRange lent (withStation panel station last) ≡ true
-  unfolding withStation stationsInRange
+  unfolding withStation withStations stationsInRange
   with-station-in-range station last e =
       let f = fields lent panel h in
       in-range lent (withStation panel station last)

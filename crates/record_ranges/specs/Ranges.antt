@@ -4,11 +4,12 @@ use mathlib.Core.Bool.{Bool, true}
 use mathlib.Core.List.{List, [], _∷_}
 use lib.Dec.{leb, eqb}
 use lib.ListN.{take}
-use Rattle.refusal.specs.Judging.{both, either, within}
+use Rattle.conditions.specs.Conditions.{both, either, within}
 use Rattle.record.specs.declared.Record.{Record}
 use Rattle.record.specs.declared.Reader.{Reader}
 use Rattle.record.specs.declared.Station.{Station}
-use Rattle.work_ranges.specs.WorkRanges.{validPoint, workInRange, writerInRange}
+use Rattle.slot_words.specs.Points.{validPoint}
+use Rattle.work_ranges.specs.WorkRanges.{workInRange, writerInRange}
 
 -- the test holds of each element
 unfoldable pub all : {A : Type 0} → (A → Bool) → List A → Bool
@@ -47,5 +48,5 @@ inRange lent panel =
     both (sizesInRange (panel .m) (panel .k) lent)
     (both (leb (panel .reach) (panel .k))
     (both (countsInRange (panel .m) (panel .k) (panel .counts))
-    (both (writerInRange (panel .k) (panel .writer))
+    (both (writerInRange (panel .k) (panel .writer .work))
     (both (readersInRange (panel .m) (panel .k) (panel .readers)) (stationsInRange (panel .stations))))))

@@ -1,12 +1,12 @@
 // The ranges of the record's fields, one function for each group, joined in `is_in_range`.
 ghost use mathlib.Core.Path.{_≡_};
 ghost use Rattle.record_ranges.specs.Ranges.{readerInRange, readersInRange, stationInRange, stationsInRange, countsInRange, sizesInRange, inRange};
+use conditions::both_hold;
+use conditions::is_within;
 use record::Reader;
 use record::Record;
 use record::Station;
-use refusal::tests::both_hold;
-use refusal::tests::is_within;
-use work_ranges::is_valid_point;
+use slot_words::points::is_valid_point;
 use work_ranges::is_work_in_range;
 use work_ranges::is_writer_in_range;
 
@@ -84,6 +84,7 @@ pub fn is_in_range(panel: Record, lent: usize) -> bool
 {
     let counts = panel.counts;
     let writer = panel.writer;
+    let work = writer.work;
     let readers = panel.readers;
     let stations = panel.stations;
     both_hold(
@@ -93,7 +94,7 @@ pub fn is_in_range(panel: Record, lent: usize) -> bool
             both_hold(
                 are_counts_in_range(counts, panel.m, panel.k),
                 both_hold(
-                    is_writer_in_range(writer, panel.k),
+                    is_writer_in_range(work, panel.k),
                     both_hold(
                         are_readers_in_range(readers, panel.m, panel.k),
                         are_stations_in_range(stations),

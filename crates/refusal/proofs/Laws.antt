@@ -1,18 +1,16 @@
 -- Laws of the refusals: no number is 0, so that 0 can mean "not refused"; a number tells its row; a word's letters are in its array;
--- what follows where a chain of tests refuses or does not; and what joined tests and ranges say.
+-- and what follows where a chain of tests refuses or does not.
 use Prim.Native.Nat.{ℕ, zero, suc, _-_, _≤_}
 use mathlib.Core.Path.{_≡_, refl}
-use mathlib.Core.Bool.{Bool, true, false, false≢true}
+use mathlib.Core.Bool.{Bool, true, false}
 use mathlib.Core.List.{List, [], _∷_}
 use mathlib.Mathlib.Logic.Function.Defs.{LeftInverse·injective}
 use native.Mathlib.Omega.{arith}
-use borrow.Author.Tests.{leb-true, le-leb}
-use lib.Dec.{leb}
 use lib.ListN.{length, getD, replicate, length-append}
 use Rattle.refusal.specs.declared.Refusal.{Refusal}
 use Rattle.refusal.specs.declared.Refusal.the-variants.{Misfit, Address, Reader, Engaged, Idle, NoPerch, Unknown, Length, Map, Station, Turn, Altered, Code, Short}
 use Rattle.refusal.specs.declared.Word.{Word}
-use Rattle.refusal.specs.Judging.{both, within, refuseIf, orElse}
+use Rattle.refusal.specs.Judging.{refuseIf, orElse}
 use Rattle.refusal.specs.Refusals.{numberOf, wordOf, codes, spelt}
 
 -- the row of a number
@@ -76,29 +74,3 @@ pub neither-refused : (n later : ℕ) → orElse n later ≡ 0 → (n ≡ 0) × 
 unfolding orElse
 neither-refused zero later e = (refl, e)
 neither-refused (suc n) later e = absurd (omega arith)
-
-pub both-left : (a b : Bool) → both a b ≡ true → a ≡ true
-unfolding both
-both-left true b e = refl
-both-left false b e = e
-
-pub both-right : (a b : Bool) → both a b ≡ true → b ≡ true
-unfolding both
-both-right true b e = e
-both-right false b e = absurd (false≢true e)
-
-pub both-true : (a b : Bool) → a ≡ true → b ≡ true → both a b ≡ true
-unfolding both
-both-true a b p q = rw (p, q)
-
-pub within-low : (low x high : ℕ) → within low x high ≡ true → low ≤ x
-unfolding within
-within-low low x high e = leb-true low x (both-left (leb low x) (leb x high) e)
-
-pub within-high : (low x high : ℕ) → within low x high ≡ true → x ≤ high
-unfolding within
-within-high low x high e = leb-true x high (both-right (leb low x) (leb x high) e)
-
-pub is-within : (low x high : ℕ) → low ≤ x → x ≤ high → within low x high ≡ true
-unfolding within
-is-within low x high p q = both-true (leb low x) (leb x high) (le-leb low x p) (le-leb x high q)

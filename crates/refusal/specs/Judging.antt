@@ -1,24 +1,7 @@
 -- How a call's refusal is chosen: its tests are judged in the order that document 01 states, and the first that holds gives the number.
 -- Each name here stays shut where a proof does not open it, so that a caller's proof takes a test as one term.
 use Prim.Native.Nat.{ℕ, zero, suc}
-use mathlib.Core.Bool.{Bool, true, false, _&&_, _||_}
-use lib.Dec.{leb, ltb}
-
--- both tests hold
-unfoldable pub both : Bool → Bool → Bool
-both a b = a && b
-
--- one of the tests holds, or both do
-unfoldable pub either : Bool → Bool → Bool
-either a b = a || b
-
--- x is "low to high"
-unfoldable pub within : ℕ → ℕ → ℕ → Bool
-within low x high = both (leb low x) (leb x high)
-
--- x is outside low to high
-unfoldable pub outside : ℕ → ℕ → ℕ → Bool
-outside low x high = ltb x low || ltb high x
+use mathlib.Core.Bool.{Bool, true, false}
 
 -- refusal n if the test holds, else what is judged after it; 0 at the end of a chain means: not refused
 unfoldable pub refuseIf : Bool → ℕ → ℕ → ℕ

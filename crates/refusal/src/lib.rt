@@ -2,8 +2,6 @@
 ghost use mathlib.Core.Path.{_≡_};
 ghost use Rattle.refusal.specs.Refusals.{numberOf, wordOf, codes, word, spelt};
 
-pub mod tests;
-
 pub enum Refusal {
     // m, k or a record field out of range, or slots lent other than m
     Misfit,

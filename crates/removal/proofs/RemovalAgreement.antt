@@ -10,8 +10,8 @@ use native.Mathlib.Decide.{ℕ-discrete}
 use borrow.Author.Tests.{eqb-false}
 use lib.Dec.{eqb}
 use lib.ListN.{set}
-use Rattle.refusal.specs.Judging.{both}
-use Rattle.refusal.proofs.Laws.{both-left, both-right}
+use Rattle.conditions.specs.Conditions.{both}
+use Rattle.conditions.proofs.ConditionLaws.{both-left, both-right}
 use Rattle.hash.specs.Position.{positionOf}
 use Rattle.record.specs.declared.Record.{Record}
 use Rattle.record.specs.declared.Place.{Place}
@@ -19,9 +19,10 @@ use Rattle.record.specs.declared.Removal.{Removal}
 use Rattle.record.specs.declared.RemovalStage.{RemovalStage}
 use Rattle.record.specs.declared.RemovalStage.the-variants.{Searching, Found as RemovalStage·Found, Lowering}
 use Rattle.record.specs.declared.WriterWork.the-variants.{Removing}
-use Rattle.record.specs.Parts.{numbered, withNumbered, countOf, withCount, withReach}
-use Rattle.work_ranges.specs.WorkRanges.{validPoint, removalStageInRange, removalInRange}
-use Rattle.answers.specs.Answers.{removed, endedWith}
+use Rattle.record.specs.Parts.{numbered, withNumbered, countOf, withCount, withReach, withCounts}
+use Rattle.slot_words.specs.Points.{validPoint}
+use Rattle.work_ranges.specs.WorkRanges.{removalStageInRange, removalInRange}
+use Rattle.answers.specs.Answers.{removed, endedWith, finishes}
 use Rattle.plain_list.specs.PlainList.{Rows, absent, entryOf, without, indexOf, largestIndex, tells, removeEntry, removeRow}
 use Rattle.plain_list.proofs.RowLaws.{left, steady-same, steady-without}
 use Rattle.plain_list.proofs.IndexLaws.{index-is, countIndex, Indexed, found-counted, counted-found}
@@ -34,14 +35,14 @@ use Rattle.search.specs.declared.SearchAnswer.the-variants.{Found as SearchAnsw
 use Rattle.search.specs.Access.{wordRead}
 use Rattle.search.specs.Search.{searchAccess, searchAdvance}
 use Rattle.search.proofs.TrailLaws.{Knows, search-knows}
-use Rattle.moves.specs.declared.memory.WriterAccess.the-variants.{Read, StoreReach}
-use Rattle.moves.specs.declared.update.Update.{Update}
-use Rattle.moves.specs.declared.update.Update.the-variants.{Nothing, Uncounted}
-use Rattle.moves.specs.Counts.{uncounted, largestCounted}
-use Rattle.moves.specs.Memory.{storeWord, accessRead, slotsAfter, storesSlot}
-use Rattle.moves.specs.Moves.{isIdle, ends, updated}
-use Rattle.moves.proofs.CountLaws.{largest-high, largest-covers, largest-counted}
-use Rattle.moves.proofs.StepAgreement.{Standing, standing, RemovalOK, WorkOK, begun, fedAt, isWriterEnd, no-command, StepOK, goes-on, ends-fed, empties, lowers}
+use Rattle.effects.specs.declared.memory.WriterAccess.the-variants.{Read, StoreReach}
+use Rattle.effects.specs.declared.update.Update.{Update}
+use Rattle.effects.specs.declared.update.Update.the-variants.{Nothing, Uncounted}
+use Rattle.effects.specs.Counts.{uncounted, largestCounted}
+use Rattle.effects.specs.Memory.{storeWord, accessRead, slotsAfter}
+use Rattle.effects.specs.Effects.{ends, updated}
+use Rattle.effects.proofs.CountLaws.{largest-high, largest-covers, largest-counted}
+use Rattle.effects.proofs.StepAgreement.{Standing, standing, RemovalOK, WorkOK, begun, fedAt, no-command, StepOK, goes-on, ends-fed, empties, lowers}
 use Rattle.removal.specs.Removal.{removalStageAccess, removalAccess, removalAt, removalAnswered, removalSearched, isLast, removalEmpties, removalLowers, removalStageAdvance, removalAdvance}
 
 module _ (panel : Record) (slots : List ℕ) (rows : Rows) (removal : Removal) (agrees : Agrees (panel .m) (panel .k) (panel .reach) (panel .counts) slots rows) (valid : validPoint (removal .point) ≡ true) where
@@ -56,7 +57,7 @@ module _ (panel : Record) (slots : List ℕ) (rows : Rows) (removal : Removal) (
 
   -- a step that reads leaves the record, and goes on at a stage before the list is fed
   on-stage : (read : ReadAccess) (stage : RemovalStage) (update : Update) → updated panel update ≡ panel → fedAt (removal .stage) ≡ 0 → fedAt stage ≡ 0 → RemovalOK m k (panel .reach) slots rows q stage → StepOK panel slots (Read read) (removalAt removal stage update) rows (removeRow m k q rows) (Removing removal)
-  unfolding storesSlot slotsAfter removalAt isIdle begun
+  unfolding slotsAfter removalAt begun
   on-stage read stage update same before after h =
       goes-on refl before after refl refl refl (ap (λ (p : Record). p .stations) same)
       (record {
@@ -65,13 +66,13 @@ module _ (panel : Record) (slots : List ℕ) (rows : Rows) (removal : Removal) (
       })
 
   searched : (read : ReadAccess) (after : Searched) → fedAt (removal .stage) ≡ 0 → Tight m k (panel .reach) rows → Knows (entryOf q rows ≡ absent) m k q rows after → StepOK panel slots (Read read) (removalSearched removal after) rows (removeRow m k q rows) (Removing removal)
-  unfolding removalSearched removalAnswered removeRow removeEntry ends isWriterEnd slotsAfter updated
+  unfolding removalSearched removalAnswered removeRow removeEntry ends slotsAfter updated
   searched read (Going search) unfed tight h = on-stage read (Searching search) _ refl unfed refl (h, tight)
   searched read (Answered (SearchAnswer·Found place)) unfed tight h = on-stage read (RemovalStage·Found place) _ refl unfed refl (standing m k q rows place h, tight)
   searched read (Answered Unknown) unfed tight h =
       let told : removeRow m k q rows ≡ tells rows (endedWith 7) = rw h in
       subst (λ t. StepOK panel slots (Read read) (ends Nothing (endedWith 7)) rows t (Removing removal)) (sym told)
-      (ends-fed unfed refl refl refl (steady-same rows) (no-command refl refl) (record { agrees = agrees; work = tight }))
+      (ends-fed unfed refl refl (steady-same rows) (no-command refl refl) (record { agrees = agrees; work = tight }))
 
   -- the slot is emptied, and the index uncounted
   module _ (place : Place) (unfed : fedAt (removal .stage) ≡ 0) (stands : Standing m k q rows place) (tight : Tight m k (panel .reach) rows) where
@@ -122,18 +123,18 @@ module _ (panel : Record) (slots : List ℕ) (rows : Rows) (removal : Removal) (
     told-gone = rw (stands .found)
 
     last-step : StepOK panel slots (storeWord m q i 0) (removalAt removal Lowering (Uncounted i)) rows (tells (without q rows) (removed (largestIndex m k (without q rows)))) (Removing removal)
-    unfolding storeWord storesSlot slotsAfter removalAt isIdle updated uncounted withCount countOf begun
+    unfolding storeWord slotsAfter removalAt updated uncounted withCount withCounts countOf begun
     last-step = empties refl unfed refl refl refl refl refl (steady-without q rows) refl (record { agrees = emptied; work = tt })
 
     only-step : (numbered counts-after i 0 ≢ 0) ⊎ (i ≢ panel .reach) → StepOK panel slots (storeWord m q i 0) (ends (Uncounted i) (removed (panel .reach))) rows (tells (without q rows) (removed (largestIndex m k (without q rows)))) (Removing removal)
-    unfolding storeWord slotsAfter ends isWriterEnd updated uncounted withCount countOf
+    unfolding storeWord slotsAfter ends updated uncounted withCount withCounts countOf
     only-step h =
         let after = still-tight h tight in
-        ends-fed unfed refl refl (ap removed (sym (top-is m k (panel .reach) counts-after (set slots slot 0) (without q rows) emptied after))) (steady-without q rows) (no-command refl refl)
+        ends-fed unfed refl (ap (λ (reach : ℕ). finishes (removed reach)) (sym (top-is m k (panel .reach) counts-after (set slots slot 0) (without q rows) emptied after))) (steady-without q rows) (no-command refl refl)
         (record { agrees = emptied; work = after })
 
     pub empties-slot : StepOK panel slots (storeWord m q i 0) (removalEmpties panel removal i) rows (removeRow m k q rows) (Removing removal)
-    unfolding removalEmpties isLast uncounted withCount countOf both
+    unfolding removalEmpties isLast uncounted withCount withCounts countOf both
     empties-slot =
         subst (λ t. StepOK panel slots (storeWord m q i 0) (removalEmpties panel removal i) rows t (Removing removal)) (sym told-gone)
         (go (eqb (numbered counts-after i 0) 0) refl (eqb i (panel .reach)) refl)
@@ -145,9 +146,9 @@ module _ (panel : Record) (slots : List ℕ) (rows : Rows) (removal : Removal) (
 
   -- the reach is lowered to the list's largest index
   lowers-reach : fedAt (removal .stage) ≡ 1 → StepOK panel slots (StoreReach (largestCounted panel)) (removalLowers panel) rows (removeRow m k q rows) (Removing removal)
-  unfolding storesSlot slotsAfter removalLowers ends updated withReach countOf
+  unfolding slotsAfter removalLowers ends updated withReach countOf
   lowers-reach fed =
-      lowers refl fed refl (ap removed (sym (top-is m k (largestCounted panel) (panel .counts) slots rows after tight))) refl
+      lowers refl fed refl (ap (λ (reach : ℕ). finishes (removed reach)) (sym (top-is m k (largestCounted panel) (panel .counts) slots rows after tight))) refl
       (record { agrees = after; work = tight })
     where
       count-is : (i : ℕ) → 1 ≤ i → i ≤ k → countOf panel i ≡ countIndex m k i rows

@@ -5,61 +5,62 @@ use mathlib.Core.Path.{_≡_, refl}
 use mathlib.Core.Bool.{Bool, true, false, cond}
 use native.Mathlib.Omega.{arith}
 use borrow.Author.Tests.{le-leb}
-use Rattle.refusal.specs.Judging.{within}
-use Rattle.refusal.proofs.Laws.{both-left, both-right, both-true}
+use Rattle.conditions.specs.Conditions.{within}
+use Rattle.conditions.proofs.ConditionLaws.{both-left, both-right, both-true}
 use Rattle.hash.proofs.Laws.{position-below}
 use Rattle.record.specs.declared.Record.{Record}
 use Rattle.record.specs.declared.Removal.{Removal}
 use Rattle.record.specs.declared.RemovalStage.{RemovalStage}
 use Rattle.record.specs.declared.RemovalStage.the-variants.{Searching, Found as RemovalStage·Found, Lowering}
 use Rattle.record.specs.declared.WriterWork.the-variants.{Removing}
-use Rattle.work_ranges.specs.WorkRanges.{validPoint, removalStageInRange, removalInRange, writerInRange}
+use Rattle.slot_words.specs.Points.{validPoint}
+use Rattle.work_ranges.specs.WorkRanges.{removalStageInRange, removalInRange, writerInRange}
 use Rattle.search.specs.declared.Searched.{Searched}
 use Rattle.search.specs.declared.Searched.the-variants.{Going, Answered}
 use Rattle.search.specs.declared.SearchAnswer.the-variants.{Found as SearchAnswer·Found, Unknown}
-use Rattle.answers.specs.Answers.{isUnderway, removed}
+use Rattle.answers.specs.Answers.{removed}
 use Rattle.search.specs.Search.{searchAdvance}
 use Rattle.search.proofs.SearchLaws.{search-inside, searchedLeft, searchedInRange, answerInRange, OneStep, search-step}
-use Rattle.moves.specs.Memory.{storeWord}
-use Rattle.moves.specs.declared.update.Update.{Update}
-use Rattle.moves.specs.declared.update.Update.the-variants.{Nothing, Uncounted}
-use Rattle.moves.specs.Counts.{largestCounted}
-use Rattle.moves.specs.Moves.{isIdle, ends}
-use Rattle.moves.proofs.CountLaws.{largest-high}
-use Rattle.moves.proofs.MoveLaws.{slotNamed, updateInRange, reachAfter, reachStored, removalLeft, writerLeft, OneMove}
+use Rattle.effects.specs.Memory.{storeWord}
+use Rattle.effects.specs.declared.update.Update.{Update}
+use Rattle.effects.specs.declared.update.Update.the-variants.{Nothing, Uncounted}
+use Rattle.effects.specs.Counts.{largestCounted}
+use Rattle.effects.specs.Effects.{ends}
+use Rattle.effects.proofs.CountLaws.{largest-high}
+use Rattle.effects.proofs.EffectLaws.{slotNamed, updateInRange, reachAfter, reachStored, removalLeft, writerLeft, OneEffect}
 use Rattle.removal.specs.Removal.{removalStageAccess, removalAccess, removalAt, removalAnswered, removalSearched, isLast, removalEmpties, removalLowers, removalStageAdvance, removalAdvance}
 
 module _ (panel : Record) (removal : Removal) (valid : validPoint (removal .point) ≡ true) where
   -- the removal goes on at a stage in range with as many steps left
-  at-stage : (left : ℕ) (stage : RemovalStage) (update : Update) → removalStageInRange (panel .k) stage ≡ true → updateInRange (panel .k) update ≡ true → removalLeft (panel .k) stage + 1 ≤ left → OneMove (panel .k) (panel .reach) left (removalAt removal stage update)
-  unfolding removalAt writerInRange removalInRange writerLeft isUnderway isIdle
+  at-stage : (left : ℕ) (stage : RemovalStage) (update : Update) → removalStageInRange (panel .k) stage ≡ true → updateInRange (panel .k) update ≡ true → removalLeft (panel .k) stage + 1 ≤ left → OneEffect (panel .k) (panel .reach) left (removalAt removal stage update)
+  unfolding removalAt writerInRange removalInRange writerLeft
   at-stage left stage update h e less =
       record { work-fits = both-true (validPoint (removal .point)) (removalStageInRange (panel .k) stage) valid h; update-fits = e; ended = refl; less = less }
 
-  searched : (left : ℕ) (after : Searched) → OneStep (panel .k) left after → OneMove (panel .k) (panel .reach) (left + 2) (removalSearched removal after)
-  unfolding removalSearched removalAnswered ends removalStageInRange removalLeft searchedInRange searchedLeft answerInRange updateInRange writerInRange writerLeft isUnderway isIdle
+  searched : (left : ℕ) (after : Searched) → OneStep (panel .k) left after → OneEffect (panel .k) (panel .reach) (left + 2) (removalSearched removal after)
+  unfolding removalSearched removalAnswered ends removalStageInRange removalLeft searchedInRange searchedLeft answerInRange updateInRange writerInRange writerLeft
   searched left (Going search) s = at-stage _ (Searching search) Nothing (s .fits) refl (omega (arith, s .less))
   searched left (Answered (SearchAnswer·Found place)) s = at-stage _ (RemovalStage·Found place) Nothing (s .fits) refl (omega (arith, s .less))
   searched left (Answered Unknown) s = record { work-fits = refl; update-fits = refl; ended = refl; less = omega arith }
 
-  empties : (index : ℕ) → within 1 index (panel .k) ≡ true → OneMove (panel .k) (panel .reach) 2 (removalEmpties panel removal index)
-  unfolding removalEmpties ends removalStageInRange removalLeft updateInRange writerInRange writerLeft isUnderway isIdle
+  empties : (index : ℕ) → within 1 index (panel .k) ≡ true → OneEffect (panel .k) (panel .reach) 2 (removalEmpties panel removal index)
+  unfolding removalEmpties ends removalStageInRange removalLeft updateInRange writerInRange writerLeft
   empties index h = go (isLast panel index)
     where
-      go : (last : Bool) → OneMove (panel .k) (panel .reach) 2 (cond last (removalAt removal Lowering (Uncounted index)) (ends (Uncounted index) (removed (panel .reach))))
+      go : (last : Bool) → OneEffect (panel .k) (panel .reach) 2 (cond last (removalAt removal Lowering (Uncounted index)) (ends (Uncounted index) (removed (panel .reach))))
       go true = at-stage 2 Lowering (Uncounted index) refl h (omega arith)
       go false = record { work-fits = refl; update-fits = h; ended = refl; less = omega arith }
 
-  at-any-stage : (word : ℕ) (stage : RemovalStage) → panel .reach ≤ panel .k → removalStageInRange (panel .k) stage ≡ true → OneMove (panel .k) (panel .reach) (removalLeft (panel .k) stage) (removalStageAdvance panel removal stage word)
-  unfolding removalStageAdvance removalStageInRange removalLeft removalLowers ends updateInRange writerInRange writerLeft isUnderway isIdle
+  at-any-stage : (word : ℕ) (stage : RemovalStage) → panel .reach ≤ panel .k → removalStageInRange (panel .k) stage ≡ true → OneEffect (panel .k) (panel .reach) (removalLeft (panel .k) stage) (removalStageAdvance panel removal stage word)
+  unfolding removalStageAdvance removalStageInRange removalLeft removalLowers ends updateInRange writerInRange writerLeft
   at-any-stage word (Searching search) r h = searched _ _ (search-step (panel .k) (panel .reach) (removal .point) search word r h)
   at-any-stage word (RemovalStage·Found place) r h = empties (place .index) h
   at-any-stage word Lowering r h =
       record { work-fits = refl; update-fits = le-leb (largestCounted panel) (panel .k) (largest-high panel); ended = refl; less = omega arith }
 
-pub removal-moves : (panel : Record) (removal : Removal) (word : ℕ) → panel .reach ≤ panel .k → removalInRange (panel .k) removal ≡ true → OneMove (panel .k) (panel .reach) (writerLeft (panel .k) (panel .reach) (Removing removal)) (removalAdvance panel removal word)
-unfolding removalAdvance removalInRange writerLeft isUnderway isIdle
-removal-moves panel removal word r h =
+pub removal-effect : (panel : Record) (removal : Removal) (word : ℕ) → panel .reach ≤ panel .k → removalInRange (panel .k) removal ≡ true → OneEffect (panel .k) (panel .reach) (writerLeft (panel .k) (panel .reach) (Removing removal)) (removalAdvance panel removal word)
+unfolding removalAdvance removalInRange writerLeft
+removal-effect panel removal word r h =
     at-any-stage panel removal (both-left (validPoint (removal .point)) (removalStageInRange (panel .k) (removal .stage)) h) word (removal .stage) r
     (both-right (validPoint (removal .point)) (removalStageInRange (panel .k) (removal .stage)) h)
 

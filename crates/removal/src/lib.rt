@@ -1,22 +1,23 @@
 // A removal's step: search; found, store 0 and uncount the index; then one more step where the reach
 // has to be lowered.
 ghost use mathlib.Core.Path.{_≡_};
-ghost use Rattle.moves.specs.Moves.{paperMoved};
+ghost use Rattle.effects.specs.Effects.{paperEffect};
 ghost use Rattle.removal.specs.Removal.{removalAccess, removalAt, removalSearched, removalAnswered, isLast, removalEmpties, removalLowers, removalAdvance};
-use answers::WriterAnswer;
-use moves::counts::largest_counted;
-use moves::counts::with_uncounted;
-use moves::memory::WriterAccess;
-use moves::memory::store_word;
-use moves::update::Moved;
-use moves::update::Update;
-use moves::update::ended;
+use answers::Ending;
+use answers::Progress;
+use conditions::both_hold;
+use effects::counts::largest_counted;
+use effects::counts::with_uncounted;
+use effects::memory::WriterAccess;
+use effects::memory::store_word;
+use effects::update::Effect;
+use effects::update::Update;
+use effects::update::ended;
 use record::Record;
 use record::Removal;
 use record::RemovalStage;
 use record::WriterWork;
 use record::parts::count_of;
-use refusal::tests::both_hold;
 use search::SearchAnswer;
 use search::Searched;
 use search::search_access;
@@ -37,8 +38,8 @@ pub fn removal_access(panel: Record, removal: Removal) -> WriterAccess
 }
 
 // Part 3: what follows from the reach, or from the word read or stored.
-pub fn removal_advance(panel: Record, removal: Removal, word: u64) -> Moved
-    ensures { λ r. ⌜ paperMoved r ≡ removalAdvance panel removal word ⌝ }
+pub fn removal_advance(panel: Record, removal: Removal, word: u64) -> Effect
+    ensures { λ r. ⌜ paperEffect r ≡ removalAdvance panel removal word ⌝ }
 {
     let stage = removal.stage;
     match stage {
@@ -52,21 +53,21 @@ pub fn removal_advance(panel: Record, removal: Removal, word: u64) -> Moved
 }
 
 // The removal goes on at this stage.
-fn removal_at(removal: Removal, stage: RemovalStage, update: Update) -> Moved
-    ensures { λ r. ⌜ paperMoved r ≡ removalAt removal stage update ⌝ }
+fn removal_at(removal: Removal, stage: RemovalStage, update: Update) -> Effect
+    ensures { λ r. ⌜ paperEffect r ≡ removalAt removal stage update ⌝ }
 {
-    Moved {
+    Effect {
         work: WriterWork::Removing(Removal {
             point: removal.point,
             stage: stage,
         }),
         update: update,
-        answer: WriterAnswer::Underway,
+        progress: Progress::Underway,
     }
 }
 
-fn removal_searched(removal: Removal, searched: Searched) -> Moved
-    ensures { λ r. ⌜ paperMoved r ≡ removalSearched removal searched ⌝ }
+fn removal_searched(removal: Removal, searched: Searched) -> Effect
+    ensures { λ r. ⌜ paperEffect r ≡ removalSearched removal searched ⌝ }
 {
     match searched {
         Searched::Going(search) => {
@@ -77,11 +78,11 @@ fn removal_searched(removal: Removal, searched: Searched) -> Moved
 }
 
 // What the search's answer leads to.
-pub fn removal_answered(removal: Removal, answer: SearchAnswer) -> Moved
-    ensures { λ r. ⌜ paperMoved r ≡ removalAnswered removal answer ⌝ }
+pub fn removal_answered(removal: Removal, answer: SearchAnswer) -> Effect
+    ensures { λ r. ⌜ paperEffect r ≡ removalAnswered removal answer ⌝ }
 {
     let SearchAnswer::Found(place) = answer else {
-        return ended(Update::Nothing, WriterAnswer::Unknown);
+        return ended(Update::Nothing, Ending::Unknown);
     };
     removal_at(removal, RemovalStage::Found(place), Update::Nothing)
 }
@@ -95,19 +96,19 @@ fn is_last(panel: Record, index: u32) -> bool
 }
 
 // The slot is emptied. The reach is lowered by a step of its own.
-fn removal_empties(panel: Record, removal: Removal, index: u32) -> Moved
-    ensures { λ r. ⌜ paperMoved r ≡ removalEmpties panel removal index ⌝ }
+fn removal_empties(panel: Record, removal: Removal, index: u32) -> Effect
+    ensures { λ r. ⌜ paperEffect r ≡ removalEmpties panel removal index ⌝ }
 {
     if is_last(panel, index) {
         return removal_at(removal, RemovalStage::Lowering, Update::Uncounted(index));
     }
-    ended(Update::Uncounted(index), WriterAnswer::Removed(panel.reach))
+    ended(Update::Uncounted(index), Ending::Removed(panel.reach))
 }
 
 // The reach is lowered, and the removal ends.
-fn removal_lowers(panel: Record) -> Moved
-    ensures { λ r. ⌜ paperMoved r ≡ removalLowers panel ⌝ }
+fn removal_lowers(panel: Record) -> Effect
+    ensures { λ r. ⌜ paperEffect r ≡ removalLowers panel ⌝ }
 {
     let reach = largest_counted(panel);
-    ended(Update::Reach(reach), WriterAnswer::Removed(reach))
+    ended(Update::Reach(reach), Ending::Removed(reach))
 }

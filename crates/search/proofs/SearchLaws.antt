@@ -6,8 +6,8 @@ use mathlib.Core.Bool.{Bool, true, false, cond}
 use native.Mathlib.Omega.{arith}
 use borrow.Author.Tests.{ltb-true, leb-true, le-leb, eqb-false}
 use lib.Dec.{ltb, leb, eqb}
-use Rattle.refusal.specs.Judging.{within}
-use Rattle.refusal.proofs.Laws.{both-left, both-right, both-true, within-low, within-high, is-within}
+use Rattle.conditions.specs.Conditions.{within}
+use Rattle.conditions.proofs.ConditionLaws.{both-left, both-right, both-true, within-low, within-high, is-within}
 use Rattle.hash.proofs.Laws.{position-below}
 use Rattle.record.specs.declared.Probe.{Probe}
 use Rattle.record.specs.declared.Search.{Search}

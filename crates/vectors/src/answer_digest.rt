@@ -7,20 +7,34 @@ use crate::digest::two_folded;
 use crate::state_digest::command_answer_folded;
 use crate::state_digest::word_folded;
 use answers::CallAnswer;
+use answers::Ending;
+use answers::StepResult;
 
 pub(crate) fn answer_folded(digest: Digest, answer: CallAnswer) -> Digest {
     match answer {
         CallAnswer::Started => folded(digest, 15),
         CallAnswer::GivenAgain(stored) => command_answer_folded(folded(digest, 16), stored),
-        CallAnswer::Underway => folded(digest, 17),
-        CallAnswer::LookedUp(value) => two_folded(digest, 18, value),
-        CallAnswer::Placed(spot) => three_folded(digest, 19, spot.slot, spot.index),
-        CallAnswer::Changed(value) => two_folded(digest, 20, value),
-        CallAnswer::Removed(reach) => two_folded(digest, 21, reach),
-        CallAnswer::NoPerch => folded(digest, 22),
-        CallAnswer::Unknown => folded(digest, 23),
-        CallAnswer::Walked(word) => word_folded(folded(digest, 24), word),
-        CallAnswer::WalkedLast(word) => word_folded(folded(digest, 25), word),
+        CallAnswer::Stepped(result) => result_folded(digest, result),
         CallAnswer::Refused(refusal) => folded(digest, refusal.number()),
+    }
+}
+
+fn result_folded(digest: Digest, result: StepResult) -> Digest {
+    match result {
+        StepResult::Underway => folded(digest, 17),
+        StepResult::Ended(ending) => ending_folded(digest, ending),
+        StepResult::Walked(word) => word_folded(folded(digest, 24), word),
+        StepResult::WalkedLast(word) => word_folded(folded(digest, 25), word),
+    }
+}
+
+fn ending_folded(digest: Digest, ending: Ending) -> Digest {
+    match ending {
+        Ending::LookedUp(value) => two_folded(digest, 18, value),
+        Ending::Placed(spot) => three_folded(digest, 19, spot.slot, spot.index),
+        Ending::Changed(value) => two_folded(digest, 20, value),
+        Ending::Removed(reach) => two_folded(digest, 21, reach),
+        Ending::NoPerch => folded(digest, 22),
+        Ending::Unknown => folded(digest, 23),
     }
 }

@@ -49,7 +49,7 @@ fn panel_over(slots: &mut [u64], m: u32, k: u32) -> Record {
     number(m);
     number(k);
     line_end();
-    let made = table::fresh(slots, m, k);
+    let made = fresh_panel::fresh(slots, m, k);
     made.panel
 }
 

@@ -38,7 +38,7 @@ fn made(slots: &mut [u64], m: u32, k: u32) {
     number(m);
     number(k);
     text(b":");
-    let made = table::fresh(slots, m, k);
+    let made = fresh_panel::fresh(slots, m, k);
     let answer = made.answer;
     let panel = made.panel;
     fresh_answer(answer);

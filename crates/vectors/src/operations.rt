@@ -5,13 +5,16 @@ use crate::printing::line_end;
 use crate::printing::number;
 use crate::printing::refused;
 use crate::printing::text;
+use crate::printing::word;
 use crate::readers::start_answer;
-use answers::WriterAnswer;
+use answers::Ending;
+use answers::StartOutcome;
+use answers::StepAnswer;
+use answers::StepResult;
 use record::Record;
-use record::WriterWork;
+use record::idle::is_writer_idle;
 use record::parts::count_of;
 use refusal::Refusal;
-use table::StartOutcome;
 use writer::start_change;
 use writer::start_put;
 use writer::start_removal;
@@ -23,7 +26,7 @@ pub(crate) fn panel_over(slots: &mut [u64], m: u32, k: u32) -> Record {
     number(m);
     number(k);
     line_end();
-    let made = table::fresh(slots, m, k);
+    let made = fresh_panel::fresh(slots, m, k);
     made.panel
 }
 
@@ -95,25 +98,49 @@ pub(crate) fn begin_removal(panel: Record, slots: &[u64], point: u32) -> Record 
     begun(start_removal(panel, slots, point), slots)
 }
 
-fn writer_answer(answer: WriterAnswer) {
+pub(crate) fn step_answer(answer: StepAnswer) {
     match answer {
-        WriterAnswer::Underway => text(b" underway"),
-        WriterAnswer::Placed(spot) => {
+        StepAnswer::Stepped(result) => step_result(result),
+        StepAnswer::Refused(r) => refused(r),
+    }
+}
+
+fn step_result(result: StepResult) {
+    match result {
+        StepResult::Underway => text(b" underway"),
+        StepResult::Ended(ending) => ending_shown(ending),
+        StepResult::Walked(read) => {
+            text(b" word");
+            word(read);
+        }
+        StepResult::WalkedLast(read) => {
+            text(b" last");
+            word(read);
+        }
+    }
+}
+
+fn ending_shown(ending: Ending) {
+    match ending {
+        Ending::LookedUp(value) => {
+            text(b" found");
+            number(value);
+        }
+        Ending::Placed(spot) => {
             text(b" placed");
             number(spot.slot);
             number(spot.index);
         }
-        WriterAnswer::Changed(value) => {
+        Ending::Changed(value) => {
             text(b" changed");
             number(value);
         }
-        WriterAnswer::Removed(reach) => {
+        Ending::Removed(reach) => {
             text(b" removed");
             number(reach);
         }
-        WriterAnswer::NoPerch => ended(Refusal::NoPerch),
-        WriterAnswer::Unknown => ended(Refusal::Unknown),
-        WriterAnswer::Refused(r) => refused(r),
+        Ending::NoPerch => ended(Refusal::NoPerch),
+        Ending::Unknown => ended(Refusal::Unknown),
     }
 }
 
@@ -129,7 +156,7 @@ pub(crate) fn open_step(panel: Record, slots: &mut [u64]) -> Record {
     let answer = stepped.answer;
     let after = stepped.panel;
     text(b"step:");
-    writer_answer(answer);
+    step_answer(answer);
     state(after, slots);
     after
 }
@@ -141,13 +168,9 @@ pub(crate) fn step(panel: Record, slots: &mut [u64]) -> Record {
 }
 
 pub(crate) fn is_idle(panel: Record) -> bool {
-    let work = panel.writer;
-    match work {
-        WriterWork::Idle => true,
-        WriterWork::Putting(_) => false,
-        WriterWork::Changing(_) => false,
-        WriterWork::Removing(_) => false,
-    }
+    let writer = panel.writer;
+    let work = writer.work;
+    is_writer_idle(work)
 }
 
 // The steps to the end of the work underway: at most 2k + 2, and k is at most 4 here.

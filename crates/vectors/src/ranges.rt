@@ -2,6 +2,7 @@
 use crate::printing::line_end;
 use crate::printing::text;
 use crate::readers::start_answer;
+use reader_starts::start_walk;
 use record::Alteration;
 use record::Change;
 use record::ChangeStage;
@@ -24,7 +25,6 @@ use record::Walk;
 use record::WriterWork;
 use record::parts::fresh_record;
 use record::parts::with_writer;
-use table::start_walk;
 
 pub(crate) fn run() {
     sizes();

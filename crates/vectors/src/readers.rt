@@ -1,17 +1,20 @@
 // Lookups and walks over hand-made slots, one access a step, and the refusals in their order.
+use crate::operations::step_answer;
 use crate::printing::line_end;
 use crate::printing::number;
 use crate::printing::refused;
 use crate::printing::text;
 use crate::printing::word;
-use answers::ReaderAnswer;
+use answers::Ending;
 use answers::StartAnswer;
+use answers::StepAnswer;
+use answers::StepResult;
+use reader_starts::start_lookup;
+use reader_starts::start_walk;
 use reader_step::step_reader;
 use record::Record;
 use record::parts::fresh_record;
 use slot_words::word::word_of;
-use table::start_lookup;
-use table::start_walk;
 
 pub(crate) fn run() {
     let slots = stored();
@@ -52,23 +55,26 @@ pub(crate) fn start_answer(answer: StartAnswer) {
     }
 }
 
-fn reader_answer(answer: ReaderAnswer) {
-    match answer {
-        ReaderAnswer::Underway => text(b" underway"),
-        ReaderAnswer::Found(value) => {
-            text(b" found");
-            number(value);
-        }
-        ReaderAnswer::Unknown => text(b" unknown"),
-        ReaderAnswer::Word(read) => {
-            text(b" word");
-            word(read);
-        }
-        ReaderAnswer::LastWord(read) => {
-            text(b" last");
-            word(read);
-        }
-        ReaderAnswer::Refused(r) => refused(r),
+// A lookup of an unknown point ends with a word of its own.
+fn reader_answer(answer: StepAnswer) {
+    if is_unknown(answer) {
+        text(b" unknown");
+    } else {
+        step_answer(answer);
+    }
+}
+
+fn is_unknown(answer: StepAnswer) -> bool {
+    let StepAnswer::Stepped(result) = answer else {
+        return false;
+    };
+    let StepResult::Ended(ending) = result else {
+        return false;
+    };
+    if let Ending::Unknown = ending {
+        true
+    } else {
+        false
     }
 }
 

@@ -16,8 +16,9 @@ use slot_words::word::value_of;
 
 pub(crate) fn state_folded(digest: Digest, panel: Record, slots: &[u64]) -> Digest {
     let writer = panel.writer;
+    let work = writer.work;
     let sizes = three_folded(slots_folded(digest, slots), panel.m, panel.k, panel.reach);
-    let counted = writer_work_folded(counts_folded(sizes, panel), writer);
+    let counted = writer_work_folded(counts_folded(sizes, panel), work);
     stations_folded(readers_folded(counted, panel), panel)
 }
 

@@ -75,7 +75,11 @@ fn above_the_reach(slots: &mut [u64]) {
 fn reach_lowered(slots: &mut [u64]) {
     let panel = stored(slots);
     let raised = step(putting(panel, PutStage::Chosen(3)), slots);
-    let lowered = altered(with_reach(raised, 2), slots);
+    finish_with_reach(raised, slots, 2);
+}
+
+fn finish_with_reach(panel: Record, slots: &mut [u64], reach: u32) {
+    let lowered = altered(with_reach(panel, reach), slots);
     finish(lowered, slots);
 }
 

@@ -1,9 +1,10 @@
+pub mod ChangesLaws
 pub mod WholeLaws
 mod WholeSearch
 pub mod WholeLookup
 pub mod WholeEnds
 mod WholeWriting
 mod WorkBeside
-mod PutsAndChanges
+mod Puts
 mod WriterSearch
 mod Removals

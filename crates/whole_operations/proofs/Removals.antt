@@ -3,7 +3,6 @@ use Prim.Native.Nat.{ℕ, zero, suc, _-_}
 use mathlib.Core.Path.{_≡_, refl, ap, _∙_, sym}
 use mathlib.Core.Bool.{Bool, true, false, cond, false≢true}
 use mathlib.Core.List.{List}
-use native.Mathlib.Omega.{arith}
 use lib.ListN.{set, getD}
 use lib.Seq.{set-getD, set-set}
 use Rattle.record.specs.declared.Record.{Record}
@@ -12,18 +11,20 @@ use Rattle.record.specs.declared.RemovalStage.{RemovalStage}
 use Rattle.record.specs.declared.RemovalStage.the-variants.{Searching, Found as RemovalStage·Found, Lowering}
 use Rattle.record.specs.declared.WriterWork.{WriterWork}
 use Rattle.record.specs.declared.WriterWork.the-variants.{Idle, Putting, Changing, Removing}
-use Rattle.record.specs.Parts.{numbered, withNumbered, countOf, withReach, withCount}
-use Rattle.answers.specs.Answers.{Answer, removed}
+use Rattle.record.specs.Parts.{numbered, withNumbered, countOf, withReach, withCount, withCounts}
+use Rattle.answers.specs.Answers.{Ending, removed}
 use Rattle.search.specs.declared.Searched.{Searched}
 use Rattle.search.specs.declared.Searched.the-variants.{Going, Answered}
 use Rattle.search.specs.declared.SearchAnswer.the-variants.{Found as SearchAnswer·Found, Unknown}
 use Rattle.search.specs.Search.{searchAdvance}
-use Rattle.moves.specs.declared.update.Update.the-variants.{Nothing, Uncounted}
-use Rattle.moves.specs.Counts.{uncounted, largestCounted}
-use Rattle.moves.specs.Moves.{WriterMove, isIdle, ends, updated}
+use Rattle.effects.specs.declared.update.Update.the-variants.{Nothing, Uncounted}
+use Rattle.effects.specs.Counts.{uncounted, largestCounted}
+use Rattle.effects.specs.Effects.{WriterEffect, ends, updated}
+use Rattle.record.specs.Idle.{isWriterIdle}
 use Rattle.removal.specs.Removal.{isLast, removalAt, removalAnswered, removalSearched, removalEmpties, removalLowers, removalStageAdvance, removalAdvance}
 use Rattle.writer.specs.Step.{writerAdvance}
 use Rattle.whole_operations.specs.WholeFacts.{indexUncounted, isBefore, isToRemove, removes}
+use Rattle.whole_operations.proofs.ChangesLaws.{no-count}
 
 -- the record held differs from the one that the removal began with in the reach and in this index's count, and in no count as long as the slot is not emptied
 pub record Kept (panel held : Record) (index : ℕ) (work : WriterWork) : Type 0 where
@@ -37,21 +38,16 @@ unfolding numbered withNumbered
 recount list zero count = refl
 recount list (suc i) count = sym (set-set list i count (getD (set list i count) i 0)) ∙ set-getD (set list i count) i 0
 
-no-count : (panel : Record) (index count : ℕ) → index ≡ 0 → withCount panel index count ≡ panel
-unfolding withCount withNumbered
-no-count panel zero count e = refl
-no-count panel (suc i) count e = absurd (omega arith)
-
 module _ (panel held : Record) (index : ℕ) (same : held ≡ withCount (withReach panel (held .reach)) index (countOf held index)) where
-  abbrev Keeps : WriterMove → Type 0
-  Keeps move = Kept panel (updated held (move .update)) (indexUncounted index (move .update)) (move .work)
+  abbrev Keeps : WriterEffect → Type 0
+  Keeps effect = Kept panel (updated held (effect .update)) (indexUncounted index (effect .update)) (effect .work)
 
-  ends-so : (answer : Answer) → Keeps (ends Nothing answer)
+  ends-so : (answer : Ending) → Keeps (ends Nothing answer)
   unfolding ends updated indexUncounted removes isToRemove
   ends-so answer = record { same = same; kind = refl; none = λ h. absurd (false≢true h) }
 
   lowers : Keeps (removalLowers held)
-  unfolding removalLowers ends updated indexUncounted removes isToRemove withReach withCount countOf
+  unfolding removalLowers ends updated indexUncounted removes isToRemove withReach withCount withCounts countOf
   lowers =
       record {
         same = ap (λ (r : Record). withReach r (largestCounted held)) same;
@@ -71,11 +67,11 @@ module _ (panel held : Record) (index : ℕ) (same : held ≡ withCount (withRea
     searched removal (Answered Unknown) = ends-so _
 
     uncounts : (i : ℕ) → uncounted held i ≡ withCount (withReach panel (uncounted held i .reach)) i (countOf (uncounted held i) i)
-    unfolding uncounted withCount countOf
+    unfolding uncounted withCount withCounts countOf
     uncounts i =
         let first = same ∙ no-count (withReach panel (held .reach)) index (countOf held index) none in
         let again = recount (held .counts) i (countOf held i - 1) in
-        (λ j. record { m = held .m; k = held .k; reach = held .reach; counts = sym again j; writer = held .writer; readers = held .readers; stations = held .stations })
+        ap (withCounts held) (sym again)
         ∙ ap (λ (r : Record). withCount r i (numbered (withNumbered (held .counts) i (countOf held i - 1)) i 0)) first
 
     empties : (removal : Removal) (i : ℕ) → Keeps (removalEmpties held removal i)
@@ -92,14 +88,14 @@ module _ (panel held : Record) (index : ℕ) (same : held ≡ withCount (withRea
   by-stage removal (RemovalStage·Found place) word none = empties (none refl) removal (place .index)
   by-stage removal Lowering word none = lowers
 
-pub step-keeps : (panel held : Record) (index : ℕ) (work : WriterWork) (word : ℕ) → Kept panel held index work → isIdle work ≡ false → Kept panel (updated held (writerAdvance held work word .update)) (indexUncounted index (writerAdvance held work word .update)) (writerAdvance held work word .work)
-unfolding writerAdvance isIdle removes isToRemove removalAdvance
-step-keeps panel held index Idle word kept e = absurd (false≢true (sym e))
-step-keeps panel held index (Putting put) word kept e = absurd (false≢true (kept .kind))
-step-keeps panel held index (Changing change) word kept e = absurd (false≢true (kept .kind))
-step-keeps panel held index (Removing removal) word kept e = by-stage panel held index (kept .same) removal (removal .stage) word (kept .none)
+pub step-keeps : (panel held : Record) (index : ℕ) (work : WriterWork) (slot word : ℕ) → Kept panel held index work → isWriterIdle work ≡ false → Kept panel (updated held (writerAdvance held work slot word .update)) (indexUncounted index (writerAdvance held work slot word .update)) (writerAdvance held work slot word .work)
+unfolding writerAdvance removes isToRemove removalAdvance
+step-keeps panel held index Idle slot word kept e = absurd (false≢true (sym e))
+step-keeps panel held index (Putting put) slot word kept e = absurd (false≢true (kept .kind))
+step-keeps panel held index (Changing change) slot word kept e = absurd (false≢true (kept .kind))
+step-keeps panel held index (Removing removal) slot word kept e = by-stage panel held index (kept .same) removal (removal .stage) word (kept .none)
 
 -- ---- a removal that begins
 pub begins-kept : (panel : Record) (work : WriterWork) → removes work ≡ true → Kept panel panel 0 work
-unfolding withReach withCount withNumbered
+unfolding withReach withCount withCounts withNumbered
 begins-kept panel work e = record { same = refl; kind = e; none = λ h. refl }

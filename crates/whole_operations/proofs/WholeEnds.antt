@@ -1,4 +1,4 @@
--- Whole operations end: 2k + 2, k + 2 and k + 3 steps suffice, on every record.
+-- Whole puts and removals end: 2k + 2 and k + 3 steps suffice, on every record.
 use Prim.Native.Nat.{ℕ, zero, suc, _+_, _*_, _≤_}
 use mathlib.Core.Path.{_≡_, refl, ap, sym, transport}
 use mathlib.Core.Bool.{true, false, not}
@@ -8,25 +8,23 @@ use lib.ListN.{length}
 use Rattle.record.specs.declared.Record.{Record}
 use Rattle.record.specs.declared.Search.the-variants.{Unread}
 use Rattle.record.specs.declared.PutStage.the-variants.{Searching as PutStage·Searching}
-use Rattle.record.specs.declared.Alteration.the-variants.{Given}
-use Rattle.record.specs.declared.ChangeStage.the-variants.{Searching as ChangeStage·Searching}
 use Rattle.record.specs.declared.RemovalStage.the-variants.{Searching as RemovalStage·Searching}
 use Rattle.record.specs.declared.WriterWork.{WriterWork}
-use Rattle.record.specs.declared.WriterWork.the-variants.{Putting, Changing, Removing}
+use Rattle.record.specs.declared.WriterWork.the-variants.{Putting, Removing}
 use Rattle.record.specs.Parts.{withWriter}
 use Rattle.answers.specs.Answers.{started, refused, isUnderway, Outcome, outcome, unlessRefused}
-use Rattle.whole_operations.specs.Whole.{untilEnded, writerStep, wholePut, wholeChange, wholeRemoval}
+use Rattle.whole_operations.specs.Whole.{untilEnded, writerStep, wholePut, wholeRemoval}
 use Rattle.search.proofs.SearchLaws.{searchLeft}
 use Rattle.whole_operations.proofs.WholeLaws.{budget-suffices, has-ended}
-use Rattle.moves.specs.Moves.{isIdle}
-use Rattle.moves.proofs.MoveLaws.{putSearchLeft, putLeft, changeLeft, removalLeft, writerLeft}
-use Rattle.writer.specs.Starts.{startRefusal, startWriter, startPut, startChange, startRemoval}
+use Rattle.record.specs.Idle.{isWriterIdle}
+use Rattle.effects.proofs.EffectLaws.{putSearchLeft, putLeft, removalLeft, writerLeft}
+use Rattle.writer.specs.Starts.{startRefusal, startWriter, startPut, startRemoval}
 use Rattle.writer.specs.WriterFacts.{Begun}
-use Rattle.writer.proofs.WriterLaws.{AtWork, works, allowed, run-at-work, run-less, put-begins, change-begins, removal-begins}
+use Rattle.writer.proofs.WriterLaws.{AtWork, works, allowed, run-at-work, run-less, put-begins, removal-begins}
 
 -- the steps that are left, at most
 left : Outcome → ℕ
-left now = writerLeft (now .panel .k) (now .panel .reach) (now .panel .writer)
+left now = writerLeft (now .panel .k) (now .panel .reach) (now .panel .writer .work)
 
 takes-one : (now : Outcome) → AtWork now → isUnderway (now .answer) ≡ true → AtWork (writerStep now) × (left (writerStep now) + 1 ≤ left now)
 unfolding writerStep left
@@ -41,9 +39,9 @@ pub stays-at-work : (now : Outcome) → AtWork now → isUnderway (now .answer) 
 stays-at-work now p e = takes-one now p e .0
 
 -- an operation with as many steps as its budget
-module _ (panel : Record) (slots : List ℕ) (point budget : ℕ) (work : WriterWork) (enough : writerLeft (panel .k) (panel .reach) work ≤ budget) (working : isIdle work ≡ false) where
+module _ (panel : Record) (slots : List ℕ) (point budget : ℕ) (work : WriterWork) (enough : writerLeft (panel .k) (panel .reach) work ≤ budget) (working : isWriterIdle work ≡ false) where
   ends-by : (n : ℕ) → Begun (unlessRefused n panel slots (outcome (withWriter panel work) slots started)) → isUnderway (untilEnded writerStep budget (unlessRefused n panel slots (outcome (withWriter panel work) slots started)) .answer) ≡ false
-  unfolding unlessRefused isUnderway withWriter left
+  unfolding unlessRefused withWriter left
   ends-by zero begun =
       budget-suffices writerStep AtWork left takes-one budget (outcome (withWriter panel work) slots started)
       (record { fits = begun .fits refl; busy = ap not (sym working) }) enough
@@ -56,22 +54,14 @@ module _ (panel : Record) (slots : List ℕ) (point budget : ℕ) (work : Writer
 module _ (panel : Record) (slots : List ℕ) (point : ℕ) where
   -- "At most 2k + 2 steps"
   pub whole-put-ends : (value : ℕ) → isUnderway (wholePut panel slots point value .answer) ≡ false
-  unfolding wholePut startPut isIdle writerLeft putLeft putSearchLeft
+  unfolding wholePut startPut writerLeft putLeft putSearchLeft
   whole-put-ends value =
       ends panel slots point (2 * panel .k + 2) (Putting (record { point = point; value = value; stage = PutStage·Searching Unread })) (omega arith) refl
       (put-begins panel slots point value)
 
-  -- "At most k + 2"
-  pub whole-change-ends : (keep flip : ℕ) → isUnderway (wholeChange panel slots point keep flip .answer) ≡ false
-  unfolding wholeChange startChange isIdle writerLeft changeLeft searchLeft
-  whole-change-ends keep flip =
-      ends panel slots point (panel .k + 2)
-      (Changing (record { point = point; alteration = Given (record { keep = keep; flip = flip }); stage = ChangeStage·Searching Unread })) (omega arith) refl
-      (change-begins panel slots point keep flip)
-
   -- "At most k + 3"
   pub whole-removal-ends : isUnderway (wholeRemoval panel slots point .answer) ≡ false
-  unfolding wholeRemoval startRemoval isIdle writerLeft removalLeft searchLeft
+  unfolding wholeRemoval startRemoval writerLeft removalLeft searchLeft
   whole-removal-ends =
       ends panel slots point (panel .k + 3) (Removing (record { point = point; stage = RemovalStage·Searching Unread })) (omega arith) refl
       (removal-begins panel slots point)

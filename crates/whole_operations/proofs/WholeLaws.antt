@@ -79,8 +79,8 @@ module _ (step : Outcome → Outcome) where
       after-same : untilEnded step (left - 1) after ≡ untilEnded step budget start
       after-same = sym (ap (untilEnded step (left - 1)) takes) ∙ sym (one-step left now more (way .goes more)) ∙ way .same
 
-      pub moves-on : (left-after : ℕ) → left-after ≡ cond (isUnderway (after .answer)) (left - 1) 0 → OnTheWay P start budget left-after after
-      moves-on left-after e =
+      pub steps-on : (left-after : ℕ) → left-after ≡ cond (isUnderway (after .answer)) (left - 1) 0 → OnTheWay P start budget left-after after
+      steps-on left-after e =
           let out = sets-out P after (left - 1) left-after after-holds e in
           record { holds = out .holds; goes = out .goes; same = out .same ∙ after-same }
 

@@ -9,21 +9,23 @@ use borrow.Author.Tests.{ltb-false, le-ltb, not-true, not-false}
 use lib.Dec.{ltb}
 use lib.ListN.{length, length-set}
 use Rattle.refusal.specs.Judging.{refuseIf}
-use Rattle.refusal.proofs.Laws.{both-true, not-refused}
+use Rattle.conditions.proofs.ConditionLaws.{both-true}
+use Rattle.refusal.proofs.Laws.{not-refused}
 use Rattle.record.specs.declared.Record.{Record}
 use Rattle.record.specs.declared.Search.{Search}
 use Rattle.record.specs.declared.Search.the-variants.{Unread}
 use Rattle.record.specs.declared.Walk.{Walk}
 use Rattle.record.specs.declared.ReaderWork.{ReaderWork}
 use Rattle.record.specs.declared.ReaderWork.the-variants.{Idle, LookingUp, Walking}
-use Rattle.record.specs.Parts.{workOf, withWork}
+use Rattle.record.specs.Parts.{workOf, withWork, withReaders}
 use Rattle.record.proofs.WorkLaws.{work-replaced, replaced-twice, same-work}
-use Rattle.work_ranges.specs.WorkRanges.{validPoint, workInRange, lookupInRange, searchInRange}
+use Rattle.slot_words.specs.Points.{validPoint}
+use Rattle.work_ranges.specs.WorkRanges.{workInRange, lookupInRange, searchInRange}
 use Rattle.record_ranges.specs.Ranges.{inRange}
 use Rattle.record_ranges.proofs.Laws.{fields, reach-high, work-in-range, with-work-in-range}
-use Rattle.table.specs.Starts.{lookupRefusal, startReader, startLookup}
+use Rattle.reader_starts.specs.Starts.{lookupRefusal, startReader, startLookup}
 use Rattle.whole_operations.specs.Whole.{untilEnded, readerStep, wholeLookup}
-use Rattle.table.proofs.ReaderLaws.{stepsLeft, OneLess, advances, none-left}
+use Rattle.reader_starts.proofs.ReaderLaws.{stepsLeft, OneLess, advances, none-left}
 use Rattle.whole_operations.specs.WholeFacts.{searchEnd}
 use Rattle.whole_operations.proofs.WholeLaws.{budget-suffices, has-ended, same-step}
 use Rattle.whole_operations.proofs.WholeSearch.{standing, search-comes}
@@ -32,33 +34,34 @@ use Rattle.search.specs.declared.Searched.the-variants.{Going, Answered}
 use Rattle.search.specs.declared.SearchAnswer.{SearchAnswer}
 use Rattle.search.specs.declared.SearchAnswer.the-variants.{Found, Unknown}
 use Rattle.search.specs.Access.{wordRead}
-use Rattle.answers.specs.Answers.{Answer, started, underway, refused, walked, walkedLast, isUnderway, Outcome, outcome, unlessRefused}
+use Rattle.answers.specs.Answers.{Answer, started, underway, refused, walked, walkedLast, isUnderway, Outcome, outcome, unlessRefused, ended}
 use Rattle.answers.proofs.AnswerLaws.{allowed-outcome}
 use Rattle.search.specs.Search.{searchAccess, searchAdvance}
-use Rattle.reader_step.specs.Reader.{isIdle, readerAccess, ReaderMove, lookupAnswer, lookupMove, lookupAdvance, walkAdvance, readerAdvance, stepRefusal, moved, readerRuns, stepReader}
+use Rattle.record.specs.Idle.{isReaderIdle}
+use Rattle.reader_step.specs.Reader.{readerAccess, ReaderEffect, lookupEnding, lookupEffect, lookupAdvance, walkAdvance, readerAdvance, stepRefusal, afterStep, readerRuns, stepReader}
 use Rattle.search.proofs.SearchLaws.{searchLeft}
 
 -- "A step that ends an operation .. leaves that party idle", and only such a step does
-lookup-idle : (point : ℕ) (after : Searched) → isUnderway (lookupMove point after .answer) ≡ not (isIdle (lookupMove point after .work))
-unfolding lookupMove lookupAnswer isUnderway isIdle
+lookup-idle : (point : ℕ) (after : Searched) → isUnderway (lookupEffect point after .answer) ≡ not (isReaderIdle (lookupEffect point after .work))
+unfolding lookupEffect lookupEnding
 lookup-idle point (Going search) = refl
 lookup-idle point (Answered (Found place)) = refl
 lookup-idle point (Answered Unknown) = refl
 
-walk-idle : (m : ℕ) (walk : Walk) (word : ℕ) → isUnderway (walkAdvance m walk word .answer) ≡ not (isIdle (walkAdvance m walk word .work))
-unfolding walkAdvance isUnderway isIdle
+walk-idle : (m : ℕ) (walk : Walk) (word : ℕ) → isUnderway (walkAdvance m walk word .answer) ≡ not (isReaderIdle (walkAdvance m walk word .work))
+unfolding walkAdvance
 walk-idle m walk word = go (ltb (walk .next + 1) m)
   where
-    after : Bool → ReaderMove
+    after : Bool → ReaderEffect
     after b = cond b (record { work = Walking (record { next = walk .next + 1 }); answer = walked word }) (record { work = Idle; answer = walkedLast word })
 
-    go : (b : Bool) → isUnderway (after b .answer) ≡ not (isIdle (after b .work))
+    go : (b : Bool) → isUnderway (after b .answer) ≡ not (isReaderIdle (after b .work))
     go true = refl
     go false = refl
 
-reader-idle : (m reach : ℕ) (work : ReaderWork) (word : ℕ) → isIdle work ≡ false → isUnderway (readerAdvance m reach work word .answer) ≡ not (isIdle (readerAdvance m reach work word .work))
-unfolding readerAdvance lookupAdvance isIdle isUnderway
-reader-idle m reach Idle word e = refl
+reader-idle : (m reach : ℕ) (work : ReaderWork) (word : ℕ) → isReaderIdle work ≡ false → isUnderway (readerAdvance m reach work word .answer) ≡ not (isReaderIdle (readerAdvance m reach work word .work))
+unfolding readerAdvance lookupAdvance
+reader-idle m reach Idle word e = absurd (false≢true (sym e))
 reader-idle m reach (LookingUp lookup) word e = lookup-idle (lookup .point) (searchAdvance reach (lookup .point) (lookup .search) word)
 reader-idle m reach (Walking walk) word e = walk-idle m walk word
 
@@ -67,48 +70,47 @@ record AtWork (reader : ℕ) (now : Outcome) : Type 0 where
   pub fits : inRange (length (now .slots)) (now .panel) ≡ true
   pub known : reader ≤ 15
   pub held : reader < length (now .panel .readers)
-  pub busy : isUnderway (now .answer) ≡ not (isIdle (workOf (now .panel) reader))
+  pub busy : isUnderway (now .answer) ≡ not (isReaderIdle (workOf (now .panel) reader))
 
 left : ℕ → Outcome → ℕ
 left reader now = stepsLeft (now .panel .m) (now .panel .k) (workOf (now .panel) reader)
 
 -- a reader at work has a step left
-some-left : (m k : ℕ) (work : ReaderWork) → workInRange m k work ≡ true → isIdle work ≡ false → 1 ≤ stepsLeft m k work
-unfolding isIdle
+some-left : (m k : ℕ) (work : ReaderWork) → workInRange m k work ≡ true → isReaderIdle work ≡ false → 1 ≤ stepsLeft m k work
 some-left m k work fits e = go (stepsLeft m k work) refl
   where
     go : (n : ℕ) → stepsLeft m k work ≡ n → 1 ≤ stepsLeft m k work
-    go zero q = absurd (false≢true (sym e ∙ ap isIdle (none-left m k work fits (omega arith))))
+    go zero q = absurd (false≢true (sym e ∙ ap isReaderIdle (none-left m k work fits (omega arith))))
     go (suc n) q = omega arith
 
--- one step of a reader at work, with its move
-module _ (reader : ℕ) (panel : Record) (slots : List ℕ) (fits : inRange (length slots) panel ≡ true) (known : reader ≤ 15) (held : reader < length (panel .readers)) (works : isIdle (workOf panel reader) ≡ false) where
-  move : ReaderMove
-  move = readerAdvance (panel .m) (panel .reach) (workOf panel reader) (wordRead slots (readerAccess (panel .m) (workOf panel reader)))
+-- one step of a reader at work, with its effect
+module _ (reader : ℕ) (panel : Record) (slots : List ℕ) (fits : inRange (length slots) panel ≡ true) (known : reader ≤ 15) (held : reader < length (panel .readers)) (works : isReaderIdle (workOf panel reader) ≡ false) where
+  effect : ReaderEffect
+  effect = readerAdvance (panel .m) (panel .reach) (workOf panel reader) (wordRead slots (readerAccess (panel .m) (workOf panel reader)))
 
-  allowed : stepReader panel slots reader ≡ outcome (withWork panel reader (move .work)) slots (move .answer)
-  unfolding stepReader stepRefusal refuseIf unlessRefused readerRuns moved move
+  allowed : stepReader panel slots reader ≡ outcome (withWork panel reader (effect .work)) slots (effect .answer)
+  unfolding stepReader stepRefusal refuseIf unlessRefused readerRuns afterStep effect
   allowed = rw (fits, le-ltb 15 reader (omega arith), works)
 
-  replaced : workOf (withWork panel reader (move .work)) reader ≡ move .work
-  replaced = work-replaced panel reader (move .work) held
+  replaced : workOf (withWork panel reader (effect .work)) reader ≡ effect .work
+  replaced = work-replaced panel reader (effect .work) held
 
-  one : OneLess (panel .m) (panel .k) (stepsLeft (panel .m) (panel .k) (workOf panel reader)) (move .work)
-  unfolding move
+  one : OneLess (panel .m) (panel .k) (stepsLeft (panel .m) (panel .k) (workOf panel reader)) (effect .work)
+  unfolding effect
   one = advances (panel .m) (panel .k) (panel .reach) (workOf panel reader) _ (fields (length slots) panel fits .reach-fits) (work-in-range (length slots) panel reader fits)
 
-  at-work : AtWork reader (outcome (withWork panel reader (move .work)) slots (move .answer))
-  unfolding withWork move
+  at-work : AtWork reader (outcome (withWork panel reader (effect .work)) slots (effect .answer))
+  unfolding withWork withReaders effect
   at-work =
       record {
-        fits = with-work-in-range (length slots) panel fits reader (move .work) (one .in-range);
+        fits = with-work-in-range (length slots) panel fits reader (effect .work) (one .in-range);
         known = known;
-        held = omega (arith, length-set (panel .readers) reader (record { work = move .work }));
-        busy = reader-idle (panel .m) (panel .reach) (workOf panel reader) _ works ∙ ap (λ (w : ReaderWork). not (isIdle w)) (sym replaced);
+        held = omega (arith, length-set (panel .readers) reader (record { work = effect .work }));
+        busy = reader-idle (panel .m) (panel .reach) (workOf panel reader) _ works ∙ ap (λ (w : ReaderWork). not (isReaderIdle w)) (sym replaced);
       }
 
-  less : left reader (outcome (withWork panel reader (move .work)) slots (move .answer)) + 1 ≤ left reader (outcome panel slots started)
-  unfolding left withWork
+  less : left reader (outcome (withWork panel reader (effect .work)) slots (effect .answer)) + 1 ≤ left reader (outcome panel slots started)
+  unfolding left withWork withReaders
   less =
       let after = ap (stepsLeft (panel .m) (panel .k)) replaced in
       omega (arith, after, one .less, some-left (panel .m) (panel .k) (workOf panel reader) (work-in-range (length slots) panel reader fits) works)
@@ -116,7 +118,7 @@ module _ (reader : ℕ) (panel : Record) (slots : List ℕ) (fits : inRange (len
 takes-one : (reader : ℕ) (now : Outcome) → AtWork reader now → isUnderway (now .answer) ≡ true → AtWork reader (readerStep reader now) × (left reader (readerStep reader now) + 1 ≤ left reader now)
 unfolding readerStep left
 takes-one reader now p e =
-    let works = not-true (isIdle (workOf (now .panel) reader)) (sym (p .busy) ∙ e) in
+    let works = not-true (isReaderIdle (workOf (now .panel) reader)) (sym (p .busy) ∙ e) in
     let same = sym (allowed reader (now .panel) (now .slots) (p .fits) (p .known) (p .held) works) in (
       transport (λ j. AtWork reader (same j)) (at-work reader (now .panel) (now .slots) (p .fits) (p .known) (p .held) works),
       transport (λ j. left reader (same j) + 1 ≤ left reader now) (less reader (now .panel) (now .slots) (p .fits) (p .known) (p .held) works),
@@ -127,31 +129,30 @@ stays-at-work reader now p e = takes-one reader now p e .0
 
 -- a step of the record with this work put into it, from what the three parts of the step come to for this work
 module _ (panel : Record) (slots : List ℕ) (reader : ℕ) where
-  abbrev beside : ReaderWork → ReaderMove
+  abbrev beside : ReaderWork → ReaderEffect
   beside work = readerAdvance (panel .m) (panel .reach) work (wordRead slots (readerAccess (panel .m) work))
 
   step-beside : (work : ReaderWork) (answer : Answer) → AtWork reader (outcome (withWork panel reader work) slots answer) → isUnderway answer ≡ true → readerStep reader (outcome (withWork panel reader work) slots answer) ≡ outcome (withWork panel reader (beside work .work)) slots (beside work .answer)
-  unfolding readerStep withWork move
+  unfolding readerStep withWork withReaders effect
   step-beside work answer p e =
-      let works = not-true (isIdle (workOf (withWork panel reader work) reader)) (sym (p .busy) ∙ e) in
+      let works = not-true (isReaderIdle (workOf (withWork panel reader work) reader)) (sym (p .busy) ∙ e) in
       let same = work-replaced panel reader work (omega (arith, p .held, length-set (panel .readers) reader (record { work = work }))) in
       allowed reader (withWork panel reader work) slots (p .fits) (p .known) (p .held) works
       ∙ ap (λ (w : ReaderWork). outcome (withWork (withWork panel reader work) reader (beside w .work)) slots (beside w .answer)) same
       ∙ ap (λ (after : Record). outcome after slots (beside work .answer)) (replaced-twice panel reader work (beside work .work))
 
 -- a reader that is given work
-given-work : (panel : Record) (slots : List ℕ) (reader : ℕ) (work : ReaderWork) (answer : Answer) → inRange (length slots) (withWork panel reader work) ≡ true → reader ≤ 15 → length (panel .readers) ≡ 16 → isIdle work ≡ false → isUnderway answer ≡ true → AtWork reader (outcome (withWork panel reader work) slots answer)
-unfolding withWork
+given-work : (panel : Record) (slots : List ℕ) (reader : ℕ) (work : ReaderWork) (answer : Answer) → inRange (length slots) (withWork panel reader work) ≡ true → reader ≤ 15 → length (panel .readers) ≡ 16 → isReaderIdle work ≡ false → isUnderway answer ≡ true → AtWork reader (outcome (withWork panel reader work) slots answer)
+unfolding withWork withReaders
 given-work panel slots reader work answer fits known sixteen works e =
     record {
       fits = fits;
       known = known;
       held = omega (arith, length-set (panel .readers) reader (record { work = work }));
-      busy = e ∙ ap not (sym works) ∙ ap (λ (w : ReaderWork). not (isIdle w)) (sym (work-replaced panel reader work (omega arith)));
+      busy = e ∙ ap not (sym works) ∙ ap (λ (w : ReaderWork). not (isReaderIdle w)) (sym (work-replaced panel reader work (omega arith)));
     }
 
-idle-work : (work : ReaderWork) → isIdle work ≡ true → work ≡ Idle
-unfolding isIdle
+idle-work : (work : ReaderWork) → isReaderIdle work ≡ true → work ≡ Idle
 idle-work Idle e = refl
 idle-work (LookingUp lookup) e = absurd (false≢true e)
 idle-work (Walking walk) e = absurd (false≢true e)
@@ -167,11 +168,11 @@ module _ (panel : Record) (slots : List ℕ) (reader point : ℕ) (e : lookupRef
       let after-1 = not-refused (not (inRange (length slots) panel)) 1 _ (omega arith) e in
       let after-3 = not-refused (ltb 15 reader) 3 _ (omega arith) (after-1 .1) in
       let after-2 = not-refused (not (validPoint point)) 2 _ (omega arith) (after-3 .1) in
-      let after-4 = not-refused (not (isIdle (workOf panel reader))) 4 0 (omega arith) (after-2 .1) in (
+      let after-4 = not-refused (not (isReaderIdle (workOf panel reader))) 4 0 (omega arith) (after-2 .1) in (
         not-false (inRange (length slots) panel) (after-1 .0),
         omega (arith, ltb-false 15 reader (after-3 .0)),
         not-false (validPoint point) (after-2 .0),
-        idle-work (workOf panel reader) (not-false (isIdle (workOf panel reader)) (after-4 .0)),
+        idle-work (workOf panel reader) (not-false (isReaderIdle (workOf panel reader)) (after-4 .0)),
       )
 
   known-reader : reader ≤ 15
@@ -182,16 +183,16 @@ module _ (panel : Record) (slots : List ℕ) (reader point : ℕ) (e : lookupRef
   begun-fits = with-work-in-range (length slots) panel (judged .0) reader _ (both-true (validPoint point) true (judged .2) refl)
 
   begins : length (panel .readers) ≡ 16 → AtWork reader (outcome (withWork panel reader work) slots started)
-  unfolding work isUnderway isIdle
+  unfolding work
   begins sixteen = given-work panel slots reader work started begun-fits known-reader sixteen refl refl
 
   begins-with : length (panel .readers) ≡ 16 → left reader (outcome (withWork panel reader work) slots started) ≤ panel .k + 1
-  unfolding left withWork work stepsLeft searchLeft
+  unfolding left withWork withReaders work stepsLeft searchLeft
   begins-with sixteen = omega (arith, ap (stepsLeft (panel .m) (panel .k)) (work-replaced panel reader work (omega (arith, known-reader))))
 
 -- "ending on the point's slot with its value, else after the r-th with 7"
 pub whole-lookup-ends : (panel : Record) (slots : List ℕ) (reader point : ℕ) → length (panel .readers) ≡ 16 → isUnderway (wholeLookup panel slots reader point .answer) ≡ false
-unfolding wholeLookup startLookup startReader unlessRefused isUnderway work
+unfolding wholeLookup startLookup startReader unlessRefused work
 whole-lookup-ends panel slots reader point h = go (lookupRefusal (length slots) panel reader point) refl
   where
     go : (n : ℕ) → lookupRefusal (length slots) panel reader point ≡ n → isUnderway (untilEnded (readerStep reader) (panel .k + 1) (unlessRefused n panel slots (outcome (withWork panel reader (LookingUp (record { point = point; search = Unread }))) slots started)) .answer) ≡ false
@@ -208,34 +209,29 @@ module _ (panel : Record) (slots : List ℕ) (reader point : ℕ) (sixteen : len
   going search = outcome (withWork panel reader (LookingUp (record { point = point; search = search }))) slots underway
 
   abbrev answered : SearchAnswer → Outcome
-  answered answer = outcome (withWork panel reader Idle) slots (lookupAnswer answer)
+  answered answer = outcome (withWork panel reader Idle) slots (ended (lookupEnding answer))
 
-  as-it-stands : (stands : Searched) → outcome (withWork panel reader (lookupMove point stands .work)) slots (lookupMove point stands .answer) ≡ standing going answered stands
-  unfolding lookupMove
+  as-it-stands : (stands : Searched) → outcome (withWork panel reader (lookupEffect point stands .work)) slots (lookupEffect point stands .answer) ≡ standing going answered stands
+  unfolding lookupEffect
   as-it-stands (Going search) = refl
   as-it-stands (Answered answer) = refl
 
   takes : (search : Search) → AtWork reader (going search) → readerStep reader (going search) ≡ standing going answered (searchAdvance (panel .reach) point search (wordRead slots (searchAccess (panel .m) point search)))
-  unfolding isUnderway readerAdvance lookupAdvance readerAccess
+  unfolding readerAdvance lookupAdvance readerAccess
   takes search p =
       step-beside panel slots reader (LookingUp (record { point = point; search = search })) underway p refl
       ∙ as-it-stands (searchAdvance (panel .reach) point search (wordRead slots (searchAccess (panel .m) point search)))
 
   -- whether the call before said "started" or "underway" makes no difference
   same-start : untilEnded (readerStep reader) (panel .k + 1) (going Unread) ≡ wholeLookup panel slots reader point
-  unfolding wholeLookup startLookup startReader isUnderway readerStep
+  unfolding wholeLookup startLookup startReader readerStep
   same-start =
       let begun = outcome (withWork panel reader (LookingUp (record { point = point; search = Unread }))) slots started in
       same-step (readerStep reader) (panel .k + 1) (going Unread) begun (omega arith) refl refl refl
       ∙ ap (untilEnded (readerStep reader) (panel .k + 1)) (sym (ap (λ (n : ℕ). unlessRefused n panel slots begun) e ∙ allowed-outcome panel slots begun))
 
-  not-underway : (answer : SearchAnswer) → isUnderway (lookupAnswer answer) ≡ false
-  unfolding lookupAnswer isUnderway
-  not-underway (Found place) = refl
-  not-underway Unknown = refl
-
-  pub looks-up : outcome panel slots (lookupAnswer (searchEnd slots (panel .m) point (panel .reach) (suc (panel .reach)) Unread)) ≡ wholeLookup panel slots reader point
-  unfolding isUnderway isIdle searchInRange searchLeft
+  pub looks-up : outcome panel slots (ended (lookupEnding (searchEnd slots (panel .m) point (panel .reach) (suc (panel .reach)) Unread))) ≡ wholeLookup panel slots reader point
+  unfolding searchInRange searchLeft
   looks-up =
       let found = searchEnd slots (panel .m) point (panel .reach) (suc (panel .reach)) Unread in
       let at-work = given-work panel slots reader (LookingUp (record { point = point; search = Unread })) underway (begun-fits panel slots reader point e) (known-reader panel slots reader point e) sixteen refl refl in
@@ -243,8 +239,8 @@ module _ (panel : Record) (slots : List ℕ) (reader point : ℕ) (sixteen : len
       let comes =
       search-comes (readerStep reader) (AtWork reader) slots (panel .m) point (panel .reach) (stays-at-work reader) going answered (λ search. refl) takes
       (suc (panel .reach)) Unread (panel .k + 1) at-work refl (omega arith) ends in
-      ap (λ (after : Record). outcome after slots (lookupAnswer found)) (sym (same-work panel reader Idle (judged panel slots reader point e .3)))
-      ∙ sym (has-ended (readerStep reader) (panel .k + 1) (answered found) (not-underway found))
+      ap (λ (after : Record). outcome after slots (ended (lookupEnding found))) (sym (same-work panel reader Idle (judged panel slots reader point e .3)))
+      ∙ sym (has-ended (readerStep reader) (panel .k + 1) (answered found) refl)
       ∙ sym (comes .same)
       ∙ same-start
 

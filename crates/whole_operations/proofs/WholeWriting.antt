@@ -13,20 +13,19 @@ use Rattle.record.specs.declared.Record.{Record}
 use Rattle.record.specs.declared.WriterWork.{WriterWork}
 use Rattle.record.specs.declared.WriterWork.the-variants.{Idle, Putting, Changing, Removing}
 use Rattle.record.specs.Parts.{withWriter}
-use Rattle.work_ranges.specs.WorkRanges.{validPoint}
+use Rattle.slot_words.specs.Points.{validPoint}
 use Rattle.record_ranges.specs.Ranges.{inRange}
 use Rattle.record_ranges.proofs.Laws.{reach-high}
 use Rattle.answers.specs.Answers.{Answer, started, underway, refused, isUnderway, Outcome, outcome, unlessRefused}
 use Rattle.answers.proofs.AnswerLaws.{refused-outcome, allowed-outcome}
-use Rattle.moves.specs.Moves.{isIdle}
+use Rattle.record.specs.Idle.{isWriterIdle}
 use Rattle.writer.specs.Starts.{startRefusal, startWriter}
 use Rattle.writer.specs.WriterFacts.{Begun}
 use Rattle.writer.proofs.WriterLaws.{AtWork}
 use Rattle.whole_operations.specs.Whole.{untilEnded, writerStep}
 use Rattle.whole_operations.proofs.WholeLaws.{has-ended, same-step}
 
-idle-work : (work : WriterWork) → isIdle work ≡ true → work ≡ Idle
-unfolding isIdle
+idle-work : (work : WriterWork) → isWriterIdle work ≡ true → work ≡ Idle
 idle-work Idle e = refl
 idle-work (Putting put) e = absurd (false≢true e)
 idle-work (Changing change) e = absurd (false≢true e)
@@ -37,7 +36,7 @@ module _ (panel : Record) (slots : List ℕ) (point : ℕ) (work : WriterWork) (
   begun = outcome (withWriter panel work) slots started
 
   pub run-refused : (refusal : Refusal) → startRefusal (length slots) panel point ≡ numberOf refusal → outcome panel slots (refused (numberOf refusal)) ≡ untilEnded writerStep budget (startWriter panel slots point work)
-  unfolding startWriter isUnderway begun
+  unfolding startWriter begun
   run-refused refusal e =
       let stopped = ap (λ (n : ℕ). unlessRefused n panel slots begun) e ∙ refused-outcome panel slots begun refusal in
       sym (has-ended writerStep budget (outcome panel slots (refused (numberOf refusal))) refl) ∙ ap (untilEnded writerStep budget) (sym stopped)
@@ -47,30 +46,30 @@ module _ (panel : Record) (slots : List ℕ) (point : ℕ) (work : WriterWork) (
     unfolding startWriter begun
     allowed = ap (λ (n : ℕ). unlessRefused n panel slots begun) e ∙ allowed-outcome panel slots begun
 
-    judged : (inRange (length slots) panel ≡ true) × (panel .writer ≡ Idle)
+    judged : (inRange (length slots) panel ≡ true) × (panel .writer .work ≡ Idle)
     unfolding startRefusal
     judged =
         let after-1 = not-refused (not (inRange (length slots) panel)) 1 _ (omega arith) e in
         let after-2 = not-refused (not (validPoint point)) 2 _ (omega arith) (after-1 .1) in
-        let after-4 = not-refused (not (isIdle (panel .writer))) 4 0 (omega arith) (after-2 .1) in (
+        let after-4 = not-refused (not (isWriterIdle (panel .writer .work))) 4 0 (omega arith) (after-2 .1) in (
           not-false (inRange (length slots) panel) (after-1 .0),
-          idle-work (panel .writer) (not-false (isIdle (panel .writer)) (after-4 .0)),
+          idle-work (panel .writer .work) (not-false (isWriterIdle (panel .writer .work)) (after-4 .0)),
         )
 
     pub reach-fits : panel .reach ≤ 64
     reach-fits = reach-high (length slots) panel (judged .0)
 
     pub begun-fits : Begun (startWriter panel slots point work) → inRange (length slots) (withWriter panel work) ≡ true
-    unfolding isUnderway begun
+    unfolding begun
     begun-fits h = subst Begun allowed h .fits refl
 
-    pub begun-at-work : Begun (startWriter panel slots point work) → isIdle work ≡ false → AtWork (outcome (withWriter panel work) slots underway)
-    unfolding withWriter isUnderway
+    pub begun-at-work : Begun (startWriter panel slots point work) → isWriterIdle work ≡ false → AtWork (outcome (withWriter panel work) slots underway)
+    unfolding withWriter
     begun-at-work h working = record { fits = begun-fits h; busy = ap not (sym working) }
 
     -- whether the call before said "started" or "underway" makes no difference
     same-start : 1 ≤ budget → untilEnded writerStep budget (outcome (withWriter panel work) slots underway) ≡ untilEnded writerStep budget (startWriter panel slots point work)
-    unfolding isUnderway begun writerStep
+    unfolding begun writerStep
     same-start h =
         same-step writerStep budget (outcome (withWriter panel work) slots underway) begun h refl refl refl
         ∙ ap (untilEnded writerStep budget) (sym allowed)
@@ -78,9 +77,9 @@ module _ (panel : Record) (slots : List ℕ) (point : ℕ) (work : WriterWork) (
     pub begun-ends : 1 ≤ budget → isUnderway (untilEnded writerStep budget (startWriter panel slots point work) .answer) ≡ false → isUnderway (untilEnded writerStep budget (outcome (withWriter panel work) slots underway) .answer) ≡ false
     begun-ends h ends = ap (λ (now : Outcome). isUnderway (now .answer)) (same-start h) ∙ ends
 
-    pub run-ended : (after : Record) (last : WriterWork) (stored : List ℕ) (answer : Answer) → after .writer ≡ panel .writer → 1 ≤ budget → isUnderway answer ≡ not (isIdle last) → isUnderway (untilEnded writerStep budget (startWriter panel slots point work) .answer) ≡ false → outcome (withWriter after last) stored answer ≡ untilEnded writerStep budget (outcome (withWriter panel work) slots underway) → outcome after stored answer ≡ untilEnded writerStep budget (startWriter panel slots point work)
+    pub run-ended : (after : Record) (last : WriterWork) (stored : List ℕ) (answer : Answer) → after .writer .work ≡ panel .writer .work → 1 ≤ budget → isUnderway answer ≡ not (isWriterIdle last) → isUnderway (untilEnded writerStep budget (startWriter panel slots point work) .answer) ≡ false → outcome (withWriter after last) stored answer ≡ untilEnded writerStep budget (outcome (withWriter panel work) slots underway) → outcome after stored answer ≡ untilEnded writerStep budget (startWriter panel slots point work)
     unfolding withWriter
     run-ended after last stored answer same-writer h busy ends ran =
         let same = ran ∙ same-start h in
-        let idle = idle-work last (not-false (isIdle last) (sym busy ∙ ap (λ (now : Outcome). isUnderway (now .answer)) same ∙ ends)) in
+        let idle = idle-work last (not-false (isWriterIdle last) (sym busy ∙ ap (λ (now : Outcome). isUnderway (now .answer)) same ∙ ends)) in
         ap (λ (w : WriterWork). outcome (withWriter after w) stored answer) (same-writer ∙ judged .1 ∙ sym idle) ∙ same

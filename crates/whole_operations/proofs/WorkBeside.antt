@@ -11,17 +11,17 @@ use Rattle.record.specs.declared.RemovalStage.{RemovalStage}
 use Rattle.record.specs.declared.RemovalStage.the-variants.{Searching, Found, Lowering}
 use Rattle.record.specs.declared.WriterWork.{WriterWork}
 use Rattle.record.specs.declared.WriterWork.the-variants.{Idle, Putting, Changing, Removing}
-use Rattle.record.specs.Parts.{countOf, withCount, withReach, withStation, withWriter}
-use Rattle.answers.specs.Answers.{Answer, removed, isUnderway, outcome}
-use Rattle.moves.specs.declared.memory.WriterAccess.{WriterAccess}
-use Rattle.moves.specs.declared.memory.WriterAccess.the-variants.{StoreReach}
-use Rattle.moves.specs.declared.update.Update.{Update}
-use Rattle.moves.specs.declared.update.Update.the-variants.{Nothing, Reach, Counted, Uncounted, Answered}
-use Rattle.moves.specs.Counts.{counted, uncounted, largestUpTo, largestCounted}
-use Rattle.moves.specs.Memory.{accessRead, slotsAfter}
-use Rattle.moves.specs.Moves.{WriterMove, ends, updated}
+use Rattle.record.specs.Parts.{countOf, withCount, withReach, withStation, withWriter, withCounts, withStations}
+use Rattle.answers.specs.Answers.{removed, Answer, stepAnswer, isUnderway, outcome}
+use Rattle.effects.specs.declared.memory.WriterAccess.{WriterAccess}
+use Rattle.effects.specs.declared.memory.WriterAccess.the-variants.{StoreReach}
+use Rattle.effects.specs.declared.update.Update.{Update}
+use Rattle.effects.specs.declared.update.Update.the-variants.{Nothing, Reach, Counted, Uncounted, Answered}
+use Rattle.effects.specs.Counts.{counted, uncounted, largestUpTo, largestCounted}
+use Rattle.effects.specs.Memory.{slotStored, accessRead, slotsAfter}
+use Rattle.effects.specs.Effects.{WriterEffect, ends, updated}
 use Rattle.removal.specs.Removal.{removalStageAccess, removalAccess, isLast, removalEmpties, removalLowers, removalStageAdvance, removalAdvance}
-use Rattle.writer.specs.Step.{writerAccess, writerAdvance, moved, writerRuns}
+use Rattle.writer.specs.Step.{writerAccess, writerAdvance, afterStep, writerRuns}
 use Rattle.writer.proofs.WriterLaws.{AtWork, works, allowed}
 use Rattle.whole_operations.specs.Whole.{writerStep}
 
@@ -45,20 +45,20 @@ module _ (panel : Record) (old : WriterWork) where
   access (Removing removal) = removal-access removal (removal .stage)
 
   removal-advance : (removal : Removal) (stage : RemovalStage) (word : ℕ) → removalStageAdvance (withWriter panel old) removal stage word ≡ removalStageAdvance panel removal stage word
-  unfolding removalStageAdvance removalEmpties isLast uncounted withCount countOf removalLowers largestCounted withWriter
+  unfolding removalStageAdvance removalEmpties isLast uncounted withCount withCounts countOf removalLowers largestCounted withWriter
   removal-advance removal (Searching search) word = refl
   removal-advance removal (Found place) word = refl
   removal-advance removal Lowering word = ap (λ (reach : ℕ). ends (Reach reach) (removed reach)) (largest (panel .k))
 
-  advance : (work : WriterWork) (word : ℕ) → writerAdvance (withWriter panel old) work word ≡ writerAdvance panel work word
+  advance : (work : WriterWork) (slot word : ℕ) → writerAdvance (withWriter panel old) work slot word ≡ writerAdvance panel work slot word
   unfolding writerAdvance withWriter removalAdvance
-  advance Idle word = refl
-  advance (Putting put) word = refl
-  advance (Changing change) word = refl
-  advance (Removing removal) word = removal-advance removal (removal .stage) word
+  advance Idle slot word = refl
+  advance (Putting put) slot word = refl
+  advance (Changing change) slot word = refl
+  advance (Removing removal) slot word = removal-advance removal (removal .stage) word
 
   update : (change : Update) (new : WriterWork) → withWriter (updated (withWriter panel old) change) new ≡ withWriter (updated panel change) new
-  unfolding updated withWriter withReach withCount withStation counted uncounted countOf
+  unfolding updated withWriter withReach withCount withCounts withStation withStations counted uncounted countOf
   update Nothing new = refl
   update (Reach reach) new = refl
   update (Counted index) new = refl
@@ -66,21 +66,24 @@ module _ (panel : Record) (old : WriterWork) where
   update (Answered command) new = refl
 
   runs : (slots : List ℕ) (work : WriterWork) → writerRuns (withWriter panel old) slots work ≡ writerRuns panel slots work
-  unfolding writerRuns moved
+  unfolding writerRuns afterStep
   runs slots work =
+      let slot = slotStored (writerAccess panel work) in
       let word = accessRead slots (writerAccess panel work) in
-      let move = ap (λ (a : WriterAccess). writerAdvance (withWriter panel old) work (accessRead slots a)) (access work) ∙ advance work word in
-      let after = writerAdvance panel work word in
-      (λ j. outcome (withWriter (updated (withWriter panel old) (move j .update)) (move j .work)) (slotsAfter slots (access work j)) (move j .answer))
-      ∙ (λ j. outcome (update (after .update) (after .work) j) (slotsAfter slots (writerAccess panel work)) (after .answer))
+      let effect = ap (λ (a : WriterAccess). writerAdvance (withWriter panel old) work (slotStored a) (accessRead slots a)) (access work) ∙ advance work slot word in
+      let after = writerAdvance panel work slot word in
+      (λ j. outcome (withWriter (updated (withWriter panel old) (effect j .update)) (effect j .work)) (slotsAfter slots (access work j)) (stepAnswer (effect j .progress)))
+      ∙ (λ j. outcome (update (after .update) (after .work) j) (slotsAfter slots (writerAccess panel work)) (stepAnswer (after .progress)))
 
 -- a step of the record with this work put back, from what its three parts gave for the record without it
-pub step-beside : (panel after : Record) (slots stored : List ℕ) (work : WriterWork) (answer : Answer) (access : WriterAccess) (word : ℕ) (move : WriterMove) → AtWork (outcome (withWriter panel work) slots answer) → isUnderway answer ≡ true → access ≡ writerAccess panel work → word ≡ accessRead slots access → stored ≡ slotsAfter slots access → move ≡ writerAdvance panel work word → after ≡ updated panel (move .update) → writerStep (outcome (withWriter panel work) slots answer) ≡ outcome (withWriter after (move .work)) stored (move .answer)
-unfolding writerStep withWriter writerRuns moved
-step-beside panel after slots stored work answer access word move p e same-access same-word same-slots same-move same-update =
-    let moves = same-move ∙ ap (writerAdvance panel work) (same-word ∙ ap (accessRead slots) same-access) in
+pub step-beside : (panel after : Record) (slots stored : List ℕ) (work : WriterWork) (answer : Answer) (access : WriterAccess) (slot word : ℕ) (effect : WriterEffect) → AtWork (outcome (withWriter panel work) slots answer) → isUnderway answer ≡ true → access ≡ writerAccess panel work → slot ≡ slotStored access → word ≡ accessRead slots access → stored ≡ slotsAfter slots access → effect ≡ writerAdvance panel work slot word → after ≡ updated panel (effect .update) → writerStep (outcome (withWriter panel work) slots answer) ≡ outcome (withWriter after (effect .work)) stored (stepAnswer (effect .progress))
+unfolding writerStep withWriter writerRuns afterStep
+step-beside panel after slots stored work answer access slot word effect p e same-access same-slot same-word same-slots same-effect same-update =
+    let from-access = same-slot ∙ ap slotStored same-access in
+    let read = same-word ∙ ap (accessRead slots) same-access in
+    let effects = same-effect ∙ (λ j. writerAdvance panel work (from-access j) (read j)) in
     allowed (withWriter panel work) slots (p .fits) (works (outcome (withWriter panel work) slots answer) p e)
     ∙ runs panel work slots work
     ∙ sym
-    ((λ j. outcome (withWriter (same-update j) (move .work)) (same-slots j) (move .answer))
-    ∙ (λ j. outcome (withWriter (updated panel (moves j .update)) (moves j .work)) (slotsAfter slots (same-access j)) (moves j .answer)))
+    ((λ j. outcome (withWriter (same-update j) (effect .work)) (same-slots j) (stepAnswer (effect .progress)))
+    ∙ (λ j. outcome (withWriter (updated panel (effects j .update)) (effects j .work)) (slotsAfter slots (same-access j)) (stepAnswer (effects j .progress))))

@@ -18,7 +18,7 @@ use Rattle.record.specs.declared.WriterWork.{WriterWork}
 use Rattle.record.specs.declared.WriterWork.the-variants.{Idle, Putting, Changing, Removing}
 use Rattle.record.specs.Parts.{withWriter}
 use Rattle.work_ranges.specs.WorkRanges.{searchInRange}
-use Rattle.answers.specs.Answers.{Answer, underway, isUnderway, Outcome, outcome}
+use Rattle.answers.specs.Answers.{Answer, stepAnswer, underway, isUnderway, Outcome, outcome}
 use Rattle.search.specs.declared.Searched.{Searched}
 use Rattle.search.specs.declared.Searched.the-variants.{Going, Answered}
 use Rattle.search.specs.declared.SearchAnswer.{SearchAnswer}
@@ -26,10 +26,11 @@ use Rattle.search.specs.declared.SearchAnswer.the-variants.{Found, Unknown}
 use Rattle.search.specs.Access.{wordRead}
 use Rattle.search.specs.Search.{searchAccess, searchAdvance}
 use Rattle.search.proofs.SearchLaws.{searchLeft}
-use Rattle.moves.specs.declared.memory.WriterAccess.the-variants.{Read}
-use Rattle.moves.specs.declared.update.Update.the-variants.{Nothing}
-use Rattle.moves.specs.Memory.{accessRead, slotsAfter}
-use Rattle.moves.specs.Moves.{WriterMove, goesOn, ends, isIdle, updated}
+use Rattle.effects.specs.declared.memory.WriterAccess.the-variants.{Read}
+use Rattle.effects.specs.declared.update.Update.the-variants.{Nothing}
+use Rattle.effects.specs.Memory.{slotStored, accessRead, slotsAfter}
+use Rattle.effects.specs.Effects.{WriterEffect, goesOn, ends, updated}
+use Rattle.record.specs.Idle.{isWriterIdle}
 use Rattle.put.specs.Put.{putStageAccess, putAccess, putAt, putAnswered, putSearched, putStageAdvance, putAdvance}
 use Rattle.change.specs.Change.{commandEnds, changeStageAccess, changeAccess, changeAt, changeAnswered, changeSearched, changeStageAdvance, changeAdvance}
 use Rattle.removal.specs.Removal.{removalStageAccess, removalAccess, removalAt, removalAnswered, removalSearched, removalStageAdvance, removalAdvance}
@@ -38,60 +39,55 @@ use Rattle.writer.specs.Step.{writerAccess, writerAdvance}
 use Rattle.writer.specs.WriterFacts.{Begun}
 use Rattle.writer.proofs.WriterLaws.{AtWork}
 use Rattle.whole_operations.specs.Whole.{untilEnded, writerStep}
-use Rattle.whole_operations.specs.WholeFacts.{putsOrChanges, removes, searchEnd, pointOfWork, searchingBy, answeredBy}
+use Rattle.whole_operations.specs.WholeFacts.{puts, removes, searchEnd, pointOfWork, searchingBy, answeredBy}
 use Rattle.whole_operations.proofs.WholeEnds.{stays-at-work}
 use Rattle.whole_operations.proofs.WholeSearch.{standing, Comes, search-comes}
 use Rattle.whole_operations.proofs.WholeWriting.{begun-at-work, begun-ends, run-ended}
 use Rattle.whole_operations.proofs.WorkBeside.{step-beside}
-use Rattle.whole_operations.proofs.PutsAndChanges.{given-ends}
 
 -- ---- parts 1 and 3 of a step of the search
-access-of : (panel : Record) (work : WriterWork) (search : Search) → isIdle work ≡ false → writerAccess panel (searchingBy work search) ≡ Read (searchAccess (panel .m) (pointOfWork work) search)
-unfolding writerAccess searchingBy pointOfWork isIdle putAccess putStageAccess changeAccess changeStageAccess removalAccess removalStageAccess
+access-of : (panel : Record) (work : WriterWork) (search : Search) → isWriterIdle work ≡ false → writerAccess panel (searchingBy work search) ≡ Read (searchAccess (panel .m) (pointOfWork work) search)
+unfolding writerAccess searchingBy pointOfWork putAccess putStageAccess changeAccess changeStageAccess removalAccess removalStageAccess
 access-of panel Idle search e = absurd (false≢true (sym e))
 access-of panel (Putting put) search e = refl
 access-of panel (Changing change) search e = refl
 access-of panel (Removing removal) search e = refl
 
 -- what a step of the search comes to, by how the search stands after it
-abbrev move-of : WriterWork → Searched → WriterMove
-move-of work (Going search) = goesOn (searchingBy work search)
-move-of work (Answered answer) = answeredBy work answer
+abbrev effect-of : WriterWork → Searched → WriterEffect
+effect-of work (Going search) = goesOn (searchingBy work search)
+effect-of work (Answered answer) = answeredBy work answer
 
-put-move : (put : Put) (search : Search) (stands : Searched) → putSearched (record { point = put .point; value = put .value; stage = PutStage·Searching search }) stands ≡ move-of (Putting put) stands
+put-effect : (put : Put) (search : Search) (stands : Searched) → putSearched (record { point = put .point; value = put .value; stage = PutStage·Searching search }) stands ≡ effect-of (Putting put) stands
 unfolding putSearched putAnswered putAt goesOn searchingBy answeredBy
-put-move put search (Going next) = refl
-put-move put search (Answered (Found place)) = refl
-put-move put search (Answered Unknown) = refl
+put-effect put search (Going next) = refl
+put-effect put search (Answered (Found place)) = refl
+put-effect put search (Answered Unknown) = refl
 
-change-move : (change : Change) (search : Search) (stands : Searched) → changeSearched (record { point = change .point; alteration = change .alteration; stage = ChangeStage·Searching search }) stands ≡ move-of (Changing change) stands
+change-effect : (change : Change) (search : Search) (stands : Searched) → changeSearched (record { point = change .point; alteration = change .alteration; stage = ChangeStage·Searching search }) stands ≡ effect-of (Changing change) stands
 unfolding changeSearched changeAnswered changeAt goesOn commandEnds searchingBy answeredBy
-change-move change search (Going next) = refl
-change-move change search (Answered (Found place)) = refl
-change-move change search (Answered Unknown) = refl
+change-effect change search (Going next) = refl
+change-effect change search (Answered (Found place)) = refl
+change-effect change search (Answered Unknown) = refl
 
-removal-move : (removal : Removal) (search : Search) (stands : Searched) → removalSearched (record { point = removal .point; stage = RemovalStage·Searching search }) stands ≡ move-of (Removing removal) stands
+removal-effect : (removal : Removal) (search : Search) (stands : Searched) → removalSearched (record { point = removal .point; stage = RemovalStage·Searching search }) stands ≡ effect-of (Removing removal) stands
 unfolding removalSearched removalAnswered removalAt goesOn searchingBy answeredBy
-removal-move removal search (Going next) = refl
-removal-move removal search (Answered (Found place)) = refl
-removal-move removal search (Answered Unknown) = refl
+removal-effect removal search (Going next) = refl
+removal-effect removal search (Answered (Found place)) = refl
+removal-effect removal search (Answered Unknown) = refl
 
-advance-of : (panel : Record) (work : WriterWork) (search : Search) (word : ℕ) → isIdle work ≡ false → writerAdvance panel (searchingBy work search) word ≡ move-of work (searchAdvance (panel .reach) (pointOfWork work) search word)
-unfolding writerAdvance searchingBy pointOfWork isIdle putAdvance putStageAdvance changeAdvance changeStageAdvance removalAdvance removalStageAdvance
-advance-of panel Idle search word e = absurd (false≢true (sym e))
-advance-of panel (Putting put) search word e = put-move put search (searchAdvance (panel .reach) (put .point) search word)
-advance-of panel (Changing change) search word e = change-move change search (searchAdvance (panel .reach) (change .point) search word)
-advance-of panel (Removing removal) search word e = removal-move removal search (searchAdvance (panel .reach) (removal .point) search word)
+advance-of : (panel : Record) (work : WriterWork) (search : Search) (slot word : ℕ) → isWriterIdle work ≡ false → writerAdvance panel (searchingBy work search) slot word ≡ effect-of work (searchAdvance (panel .reach) (pointOfWork work) search word)
+unfolding writerAdvance searchingBy pointOfWork putAdvance putStageAdvance changeAdvance changeStageAdvance removalAdvance removalStageAdvance
+advance-of panel Idle search slot word e = absurd (false≢true (sym e))
+advance-of panel (Putting put) search slot word e = put-effect put search (searchAdvance (panel .reach) (put .point) search word)
+advance-of panel (Changing change) search slot word e = change-effect change search (searchAdvance (panel .reach) (change .point) search word)
+advance-of panel (Removing removal) search slot word e = removal-effect removal search (searchAdvance (panel .reach) (removal .point) search word)
 
--- ---- what the answer leads to, of an operation that is no command's: nothing else changes in the record
-pub answered-puts : (work : WriterWork) (answer : SearchAnswer) → putsOrChanges work ≡ true → (answeredBy work answer .update ≡ Nothing) × (putsOrChanges (answeredBy work answer .work) ≡ true)
-unfolding putsOrChanges answeredBy putAnswered putAt changeAnswered changeAt commandEnds goesOn ends
-answered-puts Idle answer e = (refl, refl)
-answered-puts (Putting put) (Found place) e = (refl, refl)
-answered-puts (Putting put) Unknown e = (refl, refl)
-answered-puts (Changing change) (Found place) e = (refl, e)
-answered-puts (Changing change) Unknown e = (given-ends (change .alteration) (change .point) _ e, refl)
-answered-puts (Removing removal) answer e = absurd (false≢true e)
+-- ---- what the answer leads to: nothing else changes in the record
+pub answered-puts : (put : Put) (answer : SearchAnswer) → (putAnswered put answer .update ≡ Nothing) × (puts (putAnswered put answer .work) ≡ true)
+unfolding puts putAnswered putAt goesOn
+answered-puts put (Found place) = (refl, refl)
+answered-puts put Unknown = (refl, refl)
 
 pub answered-removes : (removal : Removal) (answer : SearchAnswer) → (removalAnswered removal answer .update ≡ Nothing) × (removes (removalAnswered removal answer .work) ≡ true)
 unfolding removes removalAnswered removalAt ends
@@ -99,35 +95,35 @@ answered-removes removal (Found place) = (refl, refl)
 answered-removes removal Unknown = (refl, refl)
 
 -- ---- the whole search
-module _ (panel : Record) (slots : List ℕ) (work : WriterWork) (working : isIdle work ≡ false) (leaves : (answer : SearchAnswer) → answeredBy work answer .update ≡ Nothing) where
+module _ (panel : Record) (slots : List ℕ) (work : WriterWork) (working : isWriterIdle work ≡ false) (leaves : (answer : SearchAnswer) → answeredBy work answer .update ≡ Nothing) where
   -- the operation with this search underway, and after the step that answers it
   abbrev going : Search → Outcome
   going search = outcome (withWriter panel (searchingBy work search)) slots underway
 
   abbrev answered : SearchAnswer → Outcome
-  answered answer = outcome (withWriter panel (answeredBy work answer .work)) slots (answeredBy work answer .answer)
+  answered answer = outcome (withWriter panel (answeredBy work answer .work)) slots (stepAnswer (answeredBy work answer .progress))
 
-  update-leaves : (stands : Searched) → panel ≡ updated panel (move-of work stands .update)
+  update-leaves : (stands : Searched) → panel ≡ updated panel (effect-of work stands .update)
   unfolding updated goesOn
   update-leaves (Going search) = refl
   update-leaves (Answered answer) = sym (ap (updated panel) (leaves answer))
 
-  as-it-stands : (stands : Searched) → outcome (withWriter panel (move-of work stands .work)) slots (move-of work stands .answer) ≡ standing going answered stands
+  as-it-stands : (stands : Searched) → outcome (withWriter panel (effect-of work stands .work)) slots (stepAnswer (effect-of work stands .progress)) ≡ standing going answered stands
   unfolding goesOn
   as-it-stands (Going search) = refl
   as-it-stands (Answered answer) = refl
 
   takes : (search : Search) → AtWork (going search) → writerStep (going search) ≡ standing going answered (searchAdvance (panel .reach) (pointOfWork work) search (wordRead slots (searchAccess (panel .m) (pointOfWork work) search)))
-  unfolding isUnderway accessRead slotsAfter
+  unfolding slotStored accessRead slotsAfter
   takes search p =
       let word = wordRead slots (searchAccess (panel .m) (pointOfWork work) search) in
       let stands = searchAdvance (panel .reach) (pointOfWork work) search word in
-      step-beside panel panel slots slots (searchingBy work search) underway (Read (searchAccess (panel .m) (pointOfWork work) search)) word (move-of work stands) p refl
-      (sym (access-of panel work search working)) refl refl (sym (advance-of panel work search word working)) (update-leaves stands)
+      step-beside panel panel slots slots (searchingBy work search) underway (Read (searchAccess (panel .m) (pointOfWork work) search)) 0 word (effect-of work stands) p refl
+      (sym (access-of panel work search working)) refl refl refl (sym (advance-of panel work search 0 word working)) (update-leaves stands)
       ∙ as-it-stands stands
 
   search-runs : (budget : ℕ) → searchingBy work Unread ≡ work → AtWork (outcome (withWriter panel work) slots underway) → isUnderway (untilEnded writerStep budget (outcome (withWriter panel work) slots underway) .answer) ≡ false → Comes writerStep AtWork budget (outcome (withWriter panel work) slots underway) (answered (searchEnd slots (panel .m) (pointOfWork work) (panel .reach) (suc (panel .reach)) Unread))
-  unfolding isUnderway searchInRange searchLeft
+  unfolding searchInRange searchLeft
   search-runs budget unread p ends =
       let begins = ap (λ (w : WriterWork). outcome (withWriter panel w) slots underway) unread in
       subst (λ (now : Outcome). Comes writerStep AtWork budget now (answered (searchEnd slots (panel .m) (pointOfWork work) (panel .reach) (suc (panel .reach)) Unread))) begins
@@ -136,7 +132,7 @@ module _ (panel : Record) (slots : List ℕ) (work : WriterWork) (working : isId
       (ap (λ (now : Outcome). isUnderway (untilEnded writerStep budget now .answer)) begins ∙ ends))
 
 -- ---- an operation that has been started, from its search's answer on
-module _ (panel : Record) (slots : List ℕ) (point : ℕ) (work : WriterWork) (budget : ℕ) (e : startRefusal (length slots) panel point ≡ 0) (some : 1 ≤ budget) (working : isIdle work ≡ false) (leaves : (answer : SearchAnswer) → answeredBy work answer .update ≡ Nothing) (unread : searchingBy work Unread ≡ work) (about : pointOfWork work ≡ point) (begun : Begun (startWriter panel slots point work)) (ends : isUnderway (untilEnded writerStep budget (startWriter panel slots point work) .answer) ≡ false) where
+module _ (panel : Record) (slots : List ℕ) (point : ℕ) (work : WriterWork) (budget : ℕ) (e : startRefusal (length slots) panel point ≡ 0) (some : 1 ≤ budget) (working : isWriterIdle work ≡ false) (leaves : (answer : SearchAnswer) → answeredBy work answer .update ≡ Nothing) (unread : searchingBy work Unread ≡ work) (about : pointOfWork work ≡ point) (begun : Begun (startWriter panel slots point work)) (ends : isUnderway (untilEnded writerStep budget (startWriter panel slots point work) .answer) ≡ false) where
   abbrev found : ℕ → SearchAnswer
   found q = searchEnd slots (panel .m) q (panel .reach) (suc (panel .reach)) Unread
 
@@ -146,12 +142,15 @@ module _ (panel : Record) (slots : List ℕ) (point : ℕ) (work : WriterWork) (
       (search-runs panel slots work working leaves budget unread (begun-at-work panel slots point work budget e begun working)
       (begun-ends panel slots point work budget e some ends))
 
-  -- the move that the answer leads to
-  module _ (move : WriterMove) (same : move ≡ answeredBy work (found point)) where
-    pub move-at-work : AtWork (outcome (withWriter panel (move .work)) slots (move .answer))
-    move-at-work = subst (λ (m : WriterMove). AtWork (outcome (withWriter panel (m .work)) slots (m .answer))) (sym same) (comes .holds)
+  -- the effect that the answer leads to
+  module _ (effect : WriterEffect) (same : effect ≡ answeredBy work (found point)) where
+    pub effect-at-work : AtWork (outcome (withWriter panel (effect .work)) slots (stepAnswer (effect .progress)))
+    effect-at-work = subst (λ (m : WriterEffect). AtWork (outcome (withWriter panel (m .work)) slots (stepAnswer (m .progress)))) (sym same) (comes .holds)
 
-    pub whole-ended : (after : Record) (last : WriterWork) (stored : List ℕ) (answer : Answer) → after .writer ≡ panel .writer → isUnderway answer ≡ not (isIdle last) → outcome (withWriter after last) stored answer ≡ untilEnded writerStep budget (outcome (withWriter panel (move .work)) slots (move .answer)) → outcome after stored answer ≡ untilEnded writerStep budget (startWriter panel slots point work)
+    pub whole-ended : (after : Record) (last : WriterWork) (stored : List ℕ) (answer : Answer) → after .writer .work ≡ panel .writer .work → isUnderway answer ≡ not (isWriterIdle last) → outcome (withWriter after last) stored answer ≡ untilEnded writerStep budget (outcome (withWriter panel (effect .work)) slots (stepAnswer (effect .progress))) → outcome after stored answer ≡ untilEnded writerStep budget (startWriter panel slots point work)
     whole-ended after last stored answer same-writer busy ran =
         run-ended panel slots point work budget e after last stored answer same-writer some busy ends
-        (ran ∙ ap (λ (m : WriterMove). untilEnded writerStep budget (outcome (withWriter panel (m .work)) slots (m .answer))) same ∙ sym (comes .same))
+        (ran ∙ ap (λ (m : WriterEffect). untilEnded writerStep budget (outcome (withWriter panel (m .work)) slots (stepAnswer (m .progress)))) same ∙ sym (comes .same))
+
+    pub has-answer : (after : Record) (last : WriterWork) (stored : List ℕ) (answer : Answer) → after .writer .work ≡ panel .writer .work → isUnderway answer ≡ not (isWriterIdle last) → outcome (withWriter after last) stored answer ≡ untilEnded writerStep budget (outcome (withWriter panel (effect .work)) slots (stepAnswer (effect .progress))) → isUnderway answer ≡ false
+    has-answer after last stored answer same-writer busy ran = ap (λ (now : Outcome). isUnderway (now .answer)) (whole-ended after last stored answer same-writer busy ran) ∙ ends

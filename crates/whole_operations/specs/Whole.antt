@@ -1,15 +1,17 @@
 -- Whole operations: started, and stepped to their end.
 use Prim.Native.Nat.{ℕ, zero, suc, _+_, _*_}
-use mathlib.Core.Bool.{cond}
+use mathlib.Core.Bool.{Bool, cond, not}
 use mathlib.Core.List.{List}
+use lib.Dec.{eqb}
+use Rattle.conditions.specs.Conditions.{either}
 use Rattle.record.specs.declared.Record.{Record}
 use Rattle.record.specs.Parts.{withReach, withCount}
 use Rattle.answers.specs.Answers.{isUnderway, Outcome}
 use Rattle.reader_step.specs.Reader.{stepReader}
-use Rattle.table.specs.Starts.{startLookup}
+use Rattle.reader_starts.specs.Starts.{startLookup}
 use Rattle.writer.specs.Step.{stepWriter}
-use Rattle.writer.specs.Starts.{startPut, startChange, startRemoval}
-use Rattle.whole_operations.specs.declared.written.Written.{Written}
+use Rattle.writer.specs.Starts.{startPut, startRemoval}
+use Rattle.whole_operations.specs.declared.changes.Changes.{Changes}
 
 -- as many steps as the operation takes, at most n
 unfoldable pub untilEnded : (Outcome → Outcome) → ℕ → Outcome → Outcome
@@ -32,14 +34,14 @@ wholeLookup panel slots reader point = untilEnded (readerStep reader) (panel .k 
 unfoldable pub wholePut : Record → List ℕ → ℕ → ℕ → Outcome
 wholePut panel slots point value = untilEnded writerStep (2 * panel .k + 2) (startPut panel slots point value)
 
--- a change: "At most k + 2"
-unfoldable pub wholeChange : Record → List ℕ → ℕ → ℕ → ℕ → Outcome
-wholeChange panel slots point keep flip = untilEnded writerStep (panel .k + 2) (startChange panel slots point keep flip)
-
 -- a removal: "At most k + 3"
 unfoldable pub wholeRemoval : Record → List ℕ → ℕ → Outcome
 wholeRemoval panel slots point = untilEnded writerStep (panel .k + 3) (startRemoval panel slots point)
 
--- the record that a put, change or removal leaves at its end: the reach, and the count of one index, or of none where that is 0
-unfoldable pub leaves : Record → Written → Record
-leaves panel written = withCount (withReach panel (written .reach)) (written .index) (written .count)
+-- the record that a put or removal leaves at its end: the reach, and the count of one index, or of none where that is 0
+unfoldable pub leaves : Record → Changes → Record
+leaves panel changes = withCount (withReach panel (changes .reach)) (changes .index) (changes .count)
+
+-- they change something in a record of this reach
+unfoldable pub changesAny : ℕ → Changes → Bool
+changesAny reach changes = either (not (eqb (changes .index) 0)) (not (eqb (changes .reach) reach))

@@ -2,8 +2,6 @@
 use Prim.Native.Nat.{ℕ, zero, suc}
 use mathlib.Core.Bool.{Bool, true, false}
 use mathlib.Core.List.{List}
-use Rattle.record.specs.declared.Alteration.{Alteration}
-use Rattle.record.specs.declared.Alteration.the-variants.{Given, Commanded}
 use Rattle.record.specs.declared.ChangeStage.the-variants.{Searching as ChangeStage·Searching}
 use Rattle.record.specs.declared.PutStage.the-variants.{Searching as PutStage·Searching}
 use Rattle.record.specs.declared.RemovalStage.{RemovalStage}
@@ -17,10 +15,9 @@ use Rattle.search.specs.declared.SearchAnswer.{SearchAnswer}
 use Rattle.search.specs.declared.SearchAnswer.the-variants.{Unknown}
 use Rattle.search.specs.Access.{wordRead}
 use Rattle.search.specs.Search.{searchAccess, searchAdvance}
-use Rattle.answers.specs.Answers.{refused}
-use Rattle.moves.specs.declared.update.Update.{Update}
-use Rattle.moves.specs.declared.update.Update.the-variants.{Nothing, Reach, Counted, Uncounted, Answered}
-use Rattle.moves.specs.Moves.{WriterMove, ends}
+use Rattle.effects.specs.declared.update.Update.{Update}
+use Rattle.effects.specs.declared.update.Update.the-variants.{Nothing, Reach, Counted, Uncounted, Answered}
+use Rattle.effects.specs.Effects.{WriterEffect, goesOn}
 use Rattle.put.specs.Put.{putAnswered}
 use Rattle.change.specs.Change.{changeAnswered}
 use Rattle.removal.specs.Removal.{removalAnswered}
@@ -52,23 +49,18 @@ searchingBy (Changing change) search =
 searchingBy (Removing removal) search = Removing (record { point = removal .point; stage = RemovalStage·Searching search })
 
 -- what an operation comes to in the step that answers its search
-unfoldable pub answeredBy : WriterWork → SearchAnswer → WriterMove
-answeredBy Idle answer = ends Nothing (refused 5)
+unfoldable pub answeredBy : WriterWork → SearchAnswer → WriterEffect
+answeredBy Idle answer = goesOn Idle
 answeredBy (Putting put) answer = putAnswered put answer
 answeredBy (Changing change) answer = changeAnswered change answer
 answeredBy (Removing removal) answer = removalAnswered removal answer
 
--- no command's
-unfoldable pub isGiven : Alteration → Bool
-isGiven (Given masks) = true
-isGiven (Commanded command) = false
-
--- a put, or a change that is no command's: neither looks at a count
-unfoldable pub putsOrChanges : WriterWork → Bool
-putsOrChanges Idle = true
-putsOrChanges (Putting put) = true
-putsOrChanges (Changing change) = isGiven (change .alteration)
-putsOrChanges (Removing removal) = false
+-- a put, or nothing any more: neither looks at a count
+unfoldable pub puts : WriterWork → Bool
+puts Idle = true
+puts (Putting put) = true
+puts (Changing change) = false
+puts (Removing removal) = false
 
 -- the index that one point more uses, or 0
 unfoldable pub indexCounted : Update → ℕ

@@ -4,21 +4,23 @@ ghost use mathlib.Core.Path.{_≡_};
 ghost use lib.ListN.{length};
 ghost use Rattle.record.specs.Parts.{withWriter};
 ghost use Rattle.record_ranges.specs.Ranges.{inRange};
-ghost use Rattle.answers.specs.Answers.{paperWriter, isUnderway, outcome};
-ghost use Rattle.moves.specs.Moves.{isIdle};
+ghost use Rattle.answers.specs.Answers.{stepAnswer, paperProgress, paperWhole, isUnderway, outcome};
+ghost use Rattle.record.specs.Idle.{isWriterIdle};
 ghost use Rattle.whole_operations.specs.Whole.{untilEnded, writerStep, wholeRemoval, leaves};
 ghost use Rattle.whole_operations.specs.WholeFacts.{indexUncounted, removes};
+use crate::budget::goes_on;
 use crate::budget::while_underway;
+use crate::changes::Changes;
+use crate::changes::Ran;
+use crate::changes::Written;
+use crate::changes::answer_of;
+use crate::changes::unchanged;
 use crate::searching::whole_search;
-use crate::written::Ran;
-use crate::written::Written;
-use crate::written::goes_on;
-use crate::written::unchanged;
-use answers::WriterAnswer;
-use moves::memory::perform;
-use moves::update::Moved;
-use moves::update::Update;
-use moves::update::with_update;
+use effects::memory::perform;
+use effects::memory::slot_stored;
+use effects::update::Effect;
+use effects::update::Update;
+use effects::update::with_update;
 use record::Record;
 use record::Removal;
 use record::RemovalStage;
@@ -46,41 +48,42 @@ fn index_uncounted(index: u32, update: Update) -> u32
 // The steps that are left of a removal, if any are, to the end or as many as the budget allows. The record
 // was judged when the removal was started, and every step keeps it in range, so that no step needs to
 // judge it again.
-fn steps(panel: Record, slots: &mut [u64], begun: Moved, budget: u64) -> Ran
-    requires { ⌜ (inRange (length (now slots)) (withWriter panel (begun .work)) ≡ true) × (isUnderway (paperWriter (begun .answer)) ≡ not (isIdle (begun .work))) × (removes (begun .work) ≡ true) ⌝ }
-    ensures { λ r. ⌜ (outcome (withWriter (leaves panel (r .written)) (r .work)) (now (slots .exit)) (paperWriter (r .written .answer)) ≡ untilEnded writerStep budget (outcome (withWriter panel (begun .work)) (now (slots .entry)) (paperWriter (begun .answer)))) × (isUnderway (paperWriter (r .written .answer)) ≡ not (isIdle (r .work))) ⌝ }
+fn steps(panel: Record, slots: &mut [u64], begun: Effect, budget: u64) -> Ran
+    requires { ⌜ (inRange (length (now slots)) (withWriter panel (begun .work)) ≡ true) × (isUnderway (stepAnswer (paperProgress (begun .progress))) ≡ not (isWriterIdle (begun .work))) × (removes (begun .work) ≡ true) ⌝ }
+    ensures { λ r. ⌜ (outcome (withWriter (leaves panel (r .changes)) (r .work)) (now (slots .exit)) (stepAnswer (paperProgress (r .progress))) ≡ untilEnded writerStep budget (outcome (withWriter panel (begun .work)) (now (slots .entry)) (stepAnswer (paperProgress (begun .progress))))) × (isUnderway (stepAnswer (paperProgress (r .progress))) ≡ not (isWriterIdle (r .work))) ⌝ }
 {
     let mut held = panel;
     let mut index = 0;
     let mut work = begun.work;
-    let mut answer = begun.answer;
-    let mut left = while_underway(budget, goes_on(answer));
+    let mut progress = begun.progress;
+    let mut left = while_underway(budget, goes_on(progress));
     while 0 < left {
-        let word = perform(slots, writer_access(held, work));
-        let next = writer_advance(held, work, word);
+        let made = writer_access(held, work);
+        let word = perform(slots, made);
+        let next = writer_advance(held, work, slot_stored(made), word);
         work = next.work;
-        answer = next.answer;
+        progress = next.progress;
         let update = next.update;
         if let Update::Nothing = update {} else {
             held = with_update(held, update);
         }
         index = index_uncounted(index, update);
-        left = while_underway(left - 1, goes_on(answer));
+        left = while_underway(left - 1, goes_on(progress));
     }
     Ran {
-        written: Written {
+        changes: Changes {
             reach: held.reach,
             index: index,
             count: count_of(held, index),
-            answer: answer,
         },
+        progress: progress,
         work: work,
     }
 }
 
 // Removes a point, from the start to the end.
 pub fn whole_removal(panel: Record, slots: &mut [u64], point: u32) -> Written
-    ensures { λ r. ⌜ outcome (leaves panel r) (now (slots .exit)) (paperWriter (r .answer)) ≡ wholeRemoval panel (now (slots .entry)) point ⌝ }
+    ensures { λ r. ⌜ outcome (leaves panel (r .changes)) (now (slots .exit)) (paperWhole (r .answer)) ≡ wholeRemoval panel (now (slots .entry)) point ⌝ }
 {
     let budget = panel.k as u64 + 3;
     let removal = Removal {
@@ -88,11 +91,16 @@ pub fn whole_removal(panel: Record, slots: &mut [u64], point: u32) -> Written
         stage: RemovalStage::Searching(Search::Unread),
     };
     match judge_start(panel, slots.len(), point) {
-        Judged::Refused(refusal) => unchanged(panel, WriterAnswer::Refused(refusal)),
+        Judged::Refused(refusal) => unchanged(panel, refusal),
         Judged::Allowed => {
             let answer = whole_search(slots, panel.m, point, panel.reach);
             let ran = steps(panel, slots, removal_answered(removal, answer), budget);
-            ran.written
+            let changes = ran.changes;
+            let progress = ran.progress;
+            Written {
+                changes: changes,
+                answer: answer_of(progress),
+            }
         }
     }
 }

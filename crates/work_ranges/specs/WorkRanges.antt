@@ -1,8 +1,9 @@
--- Document 01, "What the panel holds": the ranges of a point and of the work underway.
+-- Document 01, "What the panel holds": the ranges of the work underway.
 use Prim.Native.Nat.{ℕ}
 use mathlib.Core.Bool.{Bool, true}
 use lib.Dec.{leb, ltb}
-use Rattle.refusal.specs.Judging.{both, within}
+use Rattle.conditions.specs.Conditions.{both, within}
+use Rattle.slot_words.specs.Points.{validPoint}
 use Rattle.record.specs.declared.Search.{Search}
 use Rattle.record.specs.declared.Search.the-variants.{Unread, Probing}
 use Rattle.record.specs.declared.ReaderWork.{ReaderWork}
@@ -22,10 +23,6 @@ use Rattle.record.specs.declared.ChangeStage.the-variants.{Searching as ChangeS
 use Rattle.record.specs.declared.Removal.{Removal}
 use Rattle.record.specs.declared.RemovalStage.{RemovalStage}
 use Rattle.record.specs.declared.RemovalStage.the-variants.{Searching as RemovalStage·Searching, Found as RemovalStage·Found, Lowering}
-
--- "An address (“point”) is 1 to 2147483646"
-unfoldable pub validPoint : ℕ → Bool
-validPoint point = within 1 point 2147483646
 
 -- "remembered reach 0 to k, next index 1 to that reach"; before the reach is read there is neither
 unfoldable pub searchInRange : ℕ → Search → Bool

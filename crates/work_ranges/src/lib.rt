@@ -1,6 +1,8 @@
 // The ranges of the work underway: a reader's and the writer's, one function for each group.
 ghost use mathlib.Core.Path.{_≡_};
-ghost use Rattle.work_ranges.specs.WorkRanges.{validPoint, searchInRange, lookupInRange, workInRange, putStageInRange, putInRange, commandInRange, alterationInRange, changeStageInRange, changeInRange, removalStageInRange, removalInRange, writerInRange};
+ghost use Rattle.work_ranges.specs.WorkRanges.{searchInRange, lookupInRange, workInRange, putStageInRange, putInRange, commandInRange, alterationInRange, changeStageInRange, changeInRange, removalStageInRange, removalInRange, writerInRange};
+use conditions::both_hold;
+use conditions::is_within;
 use record::Alteration;
 use record::Change;
 use record::ChangeStage;
@@ -13,14 +15,7 @@ use record::Removal;
 use record::RemovalStage;
 use record::Search;
 use record::WriterWork;
-use refusal::tests::both_hold;
-use refusal::tests::is_within;
-
-pub fn is_valid_point(point: u32) -> bool
-    ensures { λ r. ⌜ r ≡ validPoint point ⌝ }
-{
-    is_within(1, point, 2147483646)
-}
+use slot_words::points::is_valid_point;
 
 fn is_search_in_range(search: Search, k: u32) -> bool
     ensures { λ r. ⌜ r ≡ searchInRange k search ⌝ }

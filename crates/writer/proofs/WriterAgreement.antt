@@ -9,9 +9,9 @@ use Rattle.record.specs.declared.WriterWork.the-variants.{Idle, Putting, Changi
 use Rattle.work_ranges.specs.WorkRanges.{writerInRange}
 use Rattle.plain_list.specs.PlainList.{Rows, Operation, nothing, put, change, removal, feed}
 use Rattle.plain_list.proofs.Agreement.{Agrees}
-use Rattle.moves.specs.Memory.{accessRead}
-use Rattle.moves.specs.Moves.{isIdle}
-use Rattle.moves.proofs.StepAgreement.{WorkOK, begun, StepOK}
+use Rattle.effects.specs.Memory.{slotStored, accessRead}
+use Rattle.record.specs.Idle.{isWriterIdle}
+use Rattle.effects.proofs.StepAgreement.{WorkOK, begun, StepOK}
 use Rattle.put.proofs.PutAgreement.{put-agrees}
 use Rattle.change.specs.Change.{masksOf}
 use Rattle.change.proofs.ChangeAgreement.{change-agrees}
@@ -33,8 +33,8 @@ operation-begun (Putting p) = refl
 operation-begun (Changing c) = refl
 operation-begun (Removing r) = refl
 
-pub writer-agrees : (panel : Record) (slots : List ℕ) (rows : Rows) (work : WriterWork) → Agrees (panel .m) (panel .k) (panel .reach) (panel .counts) slots rows → writerInRange (panel .k) work ≡ true → isIdle work ≡ false → WorkOK (panel .m) (panel .k) (panel .reach) slots rows work → StepOK panel slots (writerAccess panel work) (writerAdvance panel work (accessRead slots (writerAccess panel work))) rows (feed (panel .m) (panel .k) (operationOf work) rows) work
-unfolding writerAccess writerAdvance writerInRange isIdle operationOf feed
+pub writer-agrees : (panel : Record) (slots : List ℕ) (rows : Rows) (work : WriterWork) → Agrees (panel .m) (panel .k) (panel .reach) (panel .counts) slots rows → writerInRange (panel .k) work ≡ true → isWriterIdle work ≡ false → WorkOK (panel .m) (panel .k) (panel .reach) slots rows work → StepOK panel slots (writerAccess panel work) (writerAdvance panel work (slotStored (writerAccess panel work)) (accessRead slots (writerAccess panel work))) rows (feed (panel .m) (panel .k) (operationOf work) rows) work
+unfolding writerAccess writerAdvance writerInRange operationOf feed
 writer-agrees panel slots rows Idle agrees fits busy ok = absurd (false≢true (sym busy))
 writer-agrees panel slots rows (Putting p) agrees fits busy ok = put-agrees panel slots rows p agrees fits ok
 writer-agrees panel slots rows (Changing c) agrees fits busy ok = change-agrees panel slots rows c agrees fits ok

@@ -8,43 +8,47 @@ use native.Mathlib.Omega.{arith}
 use borrow.Author.Tests.{not-true, not-false}
 use lib.ListN.{length, getD, length-set}
 use lib.Seq.{getD-set-same, getD-set-other}
-use Rattle.refusal.specs.Judging.{both, refuseIf}
-use Rattle.refusal.proofs.Laws.{both-true, not-refused}
+use Rattle.conditions.specs.Conditions.{both}
+use Rattle.refusal.specs.Judging.{refuseIf}
+use Rattle.conditions.proofs.ConditionLaws.{both-true}
+use Rattle.refusal.proofs.Laws.{not-refused}
 use Rattle.record.specs.declared.Record.{Record}
 use Rattle.record.specs.declared.WriterWork.{WriterWork}
 use Rattle.record.specs.declared.WriterWork.the-variants.{Idle, Putting, Changing, Removing}
 use Rattle.record.specs.Parts.{withWriter}
-use Rattle.work_ranges.specs.WorkRanges.{validPoint, searchInRange, putStageInRange, putInRange, alterationInRange, changeStageInRange, changeInRange, removalStageInRange, removalInRange, writerInRange}
+use Rattle.slot_words.specs.Points.{validPoint}
+use Rattle.work_ranges.specs.WorkRanges.{searchInRange, putStageInRange, putInRange, alterationInRange, changeStageInRange, changeInRange, removalStageInRange, removalInRange, writerInRange}
 use Rattle.record_ranges.specs.Ranges.{inRange}
 use Rattle.record_ranges.proofs.Laws.{fields, sizes-in-range, with-writer-in-range}
 use Rattle.writer.specs.Starts.{startRefusal, startWriter, startPut, startChange, startRemoval}
 use Rattle.writer.specs.WriterFacts.{Does, reads, stores-reach, stores-slot, Keeps, Begun}
-use Rattle.writer.specs.Step.{writerAccess, writerAdvance, stepRefusal, moved, writerRuns, stepWriter}
+use Rattle.writer.specs.Step.{writerAccess, writerAdvance, stepRefusal, afterStep, writerRuns, stepWriter}
 use Rattle.answers.specs.Answers.{started, isUnderway, Outcome, outcome, unlessRefused}
 use Rattle.answers.proofs.AnswerLaws.{unless}
 use Rattle.search.proofs.SearchLaws.{slotRead}
-use Rattle.moves.specs.declared.memory.WriterAccess.{WriterAccess}
-use Rattle.moves.specs.declared.memory.WriterAccess.the-variants.{Read, StoreReach, StoreSlot}
-use Rattle.moves.specs.Memory.{accessRead, slotsAfter}
-use Rattle.moves.specs.Moves.{WriterMove, isIdle, updated}
-use Rattle.moves.proofs.MoveLaws.{slotNamed, updated-in-range, reachAfter, reachStored, Updated, update-leaves, writerLeft, OneMove}
-use Rattle.put.proofs.PutLaws.{put-moves, put-reach, put-inside}
-use Rattle.change.proofs.ChangeLaws.{change-moves, change-reach, change-inside}
-use Rattle.removal.proofs.RemovalLaws.{removal-moves, removal-reach, removal-inside}
+use Rattle.effects.specs.declared.memory.WriterAccess.{WriterAccess}
+use Rattle.effects.specs.declared.memory.WriterAccess.the-variants.{Read, StoreReach, StoreSlot}
+use Rattle.effects.specs.Memory.{slotStored, accessRead, slotsAfter}
+use Rattle.effects.specs.Effects.{WriterEffect, goesOn, updated}
+use Rattle.record.specs.Idle.{isWriterIdle}
+use Rattle.effects.proofs.EffectLaws.{slotNamed, updated-in-range, reachAfter, reachStored, Updated, update-leaves, writerLeft, OneEffect}
+use Rattle.put.proofs.PutLaws.{put-effect, put-reach, put-inside}
+use Rattle.change.proofs.ChangeLaws.{change-effect, change-reach, change-inside}
+use Rattle.removal.proofs.RemovalLaws.{removal-effect, removal-reach, removal-inside}
 
-writer-moves : (panel : Record) (work : WriterWork) (word : ℕ) → 1 ≤ panel .k → panel .reach ≤ panel .k → writerInRange (panel .k) work ≡ true → isIdle work ≡ false → OneMove (panel .k) (panel .reach) (writerLeft (panel .k) (panel .reach) work) (writerAdvance panel work word)
-unfolding writerAdvance writerInRange isIdle
-writer-moves panel Idle word low r h e = absurd (false≢true (sym e))
-writer-moves panel (Putting put) word low r h e = put-moves (panel .m) (panel .k) (panel .reach) put word low r h
-writer-moves panel (Changing change) word low r h e = change-moves (panel .k) (panel .reach) change word r h
-writer-moves panel (Removing removal) word low r h e = removal-moves panel removal word r h
+writer-effect : (panel : Record) (work : WriterWork) (slot word : ℕ) → 1 ≤ panel .k → panel .reach ≤ panel .k → writerInRange (panel .k) work ≡ true → isWriterIdle work ≡ false → OneEffect (panel .k) (panel .reach) (writerLeft (panel .k) (panel .reach) work) (writerAdvance panel work slot word)
+unfolding writerAdvance writerInRange
+writer-effect panel Idle slot word low r h e = absurd (false≢true (sym e))
+writer-effect panel (Putting put) slot word low r h e = put-effect (panel .k) (panel .reach) slot put word low r h
+writer-effect panel (Changing change) slot word low r h e = change-effect (panel .k) (panel .reach) change word r h
+writer-effect panel (Removing removal) slot word low r h e = removal-effect panel removal word r h
 
-writer-reach : (panel : Record) (work : WriterWork) (word : ℕ) → reachAfter (panel .reach) (writerAdvance panel work word .update) ≡ reachStored (panel .reach) (writerAccess panel work)
-unfolding writerAdvance writerAccess reachAfter reachStored
-writer-reach panel Idle word = refl
-writer-reach panel (Putting put) word = put-reach (panel .m) (panel .k) (panel .reach) put word
-writer-reach panel (Changing change) word = change-reach (panel .m) (panel .reach) change word
-writer-reach panel (Removing removal) word = removal-reach panel removal word
+writer-reach : (panel : Record) (work : WriterWork) (slot word : ℕ) → reachAfter (panel .reach) (writerAdvance panel work slot word .update) ≡ reachStored (panel .reach) (writerAccess panel work)
+unfolding writerAdvance writerAccess reachAfter reachStored goesOn
+writer-reach panel Idle slot word = refl
+writer-reach panel (Putting put) slot word = put-reach (panel .m) (panel .k) (panel .reach) slot put word
+writer-reach panel (Changing change) slot word = change-reach (panel .m) (panel .reach) change word
+writer-reach panel (Removing removal) slot word = removal-reach panel removal word
 
 pub slots-length : (slots : List ℕ) (access : WriterAccess) → length (slotsAfter slots access) ≡ length slots
 unfolding slotsAfter
@@ -53,53 +57,53 @@ slots-length slots (StoreReach reach) = refl
 slots-length slots (StoreSlot store) = length-set slots (store .slot) (store .word)
 
 -- a step of a writer at work on a record in range
-module _ (panel : Record) (slots : List ℕ) (fits : inRange (length slots) panel ≡ true) (works : isIdle (panel .writer) ≡ false) where
+module _ (panel : Record) (slots : List ℕ) (fits : inRange (length slots) panel ≡ true) (works : isWriterIdle (panel .writer .work) ≡ false) where
   access : WriterAccess
-  access = writerAccess panel (panel .writer)
+  access = writerAccess panel (panel .writer .work)
 
-  move : WriterMove
-  move = writerAdvance panel (panel .writer) (accessRead slots access)
+  effect : WriterEffect
+  effect = writerAdvance panel (panel .writer .work) (slotStored access) (accessRead slots access)
 
   -- no call is refused
-  pub allowed : stepWriter panel slots ≡ writerRuns panel slots (panel .writer)
+  pub allowed : stepWriter panel slots ≡ writerRuns panel slots (panel .writer .work)
   unfolding stepWriter stepRefusal refuseIf unlessRefused
   allowed = rw (fits, works)
 
-  one : OneMove (panel .k) (panel .reach) (writerLeft (panel .k) (panel .reach) (panel .writer)) move
-  unfolding move access
+  one : OneEffect (panel .k) (panel .reach) (writerLeft (panel .k) (panel .reach) (panel .writer .work)) effect
+  unfolding effect access
   one =
-      writer-moves panel (panel .writer) _ (sizes-in-range (length slots) panel fits .k-low) (fields (length slots) panel fits .reach-fits)
+      writer-effect panel (panel .writer .work) _ _ (sizes-in-range (length slots) panel fits .k-low) (fields (length slots) panel fits .reach-fits)
       (fields (length slots) panel fits .writer-fits) works
 
-  leaves : Updated panel (move .update)
-  leaves = update-leaves panel (move .update)
+  leaves : Updated panel (effect .update)
+  leaves = update-leaves panel (effect .update)
 
-  pub run-in-range : inRange (length (writerRuns panel slots (panel .writer) .slots)) (writerRuns panel slots (panel .writer) .panel) ≡ true
-  unfolding writerRuns moved move access
+  pub run-in-range : inRange (length (writerRuns panel slots (panel .writer .work) .slots)) (writerRuns panel slots (panel .writer .work) .panel) ≡ true
+  unfolding writerRuns afterStep effect access
   run-in-range =
-      transport (λ j. inRange (sym (slots-length slots access) j) (withWriter (updated panel (move .update)) (move .work)) ≡ true)
-      (with-writer-in-range (length slots) (updated panel (move .update)) (updated-in-range (length slots) panel (move .update) fits (one .update-fits)) (move .work)
-      (ap (λ (k : ℕ). writerInRange k (move .work)) (leaves .k-stays) ∙ one .work-fits))
+      transport (λ j. inRange (sym (slots-length slots access) j) (withWriter (updated panel (effect .update)) (effect .work)) ≡ true)
+      (with-writer-in-range (length slots) (updated panel (effect .update)) (updated-in-range (length slots) panel (effect .update) fits (one .update-fits)) (effect .work)
+      (ap (λ (k : ℕ). writerInRange k (effect .work)) (leaves .k-stays) ∙ one .work-fits))
 
   -- "A step that ends an operation .. leaves that party idle", and only such a step does
-  pub run-ended : isUnderway (writerRuns panel slots (panel .writer) .answer) ≡ not (isIdle (writerRuns panel slots (panel .writer) .panel .writer))
-  unfolding writerRuns moved withWriter move access
+  pub run-ended : isUnderway (writerRuns panel slots (panel .writer .work) .answer) ≡ not (isWriterIdle (writerRuns panel slots (panel .writer .work) .panel .writer .work))
+  unfolding writerRuns afterStep withWriter effect access
   run-ended = one .ended
 
-  pub run-less : writerLeft (writerRuns panel slots (panel .writer) .panel .k) (writerRuns panel slots (panel .writer) .panel .reach) (writerRuns panel slots (panel .writer) .panel .writer) + 1 ≤ writerLeft (panel .k) (panel .reach) (panel .writer)
-  unfolding writerRuns moved withWriter move access
-  run-less = transport (λ j. writerLeft (sym (leaves .k-stays) j) (sym (leaves .reach-after) j) (move .work) + 1 ≤ writerLeft (panel .k) (panel .reach) (panel .writer)) (one .less)
+  pub run-less : writerLeft (writerRuns panel slots (panel .writer .work) .panel .k) (writerRuns panel slots (panel .writer .work) .panel .reach) (writerRuns panel slots (panel .writer .work) .panel .writer .work) + 1 ≤ writerLeft (panel .k) (panel .reach) (panel .writer .work)
+  unfolding writerRuns afterStep withWriter effect access
+  run-less = transport (λ j. writerLeft (sym (leaves .k-stays) j) (sym (leaves .reach-after) j) (effect .work) + 1 ≤ writerLeft (panel .k) (panel .reach) (panel .writer .work)) (one .less)
 
 -- what holds of a writer at work and right after its last step: the record in range, and work exactly while the operation is underway
 pub record AtWork (now : Outcome) : Type 0 where
   pub fits : inRange (length (now .slots)) (now .panel) ≡ true
-  pub busy : isUnderway (now .answer) ≡ not (isIdle (now .panel .writer))
+  pub busy : isUnderway (now .answer) ≡ not (isWriterIdle (now .panel .writer .work))
 
 -- an operation that is underway has work
-pub works : (now : Outcome) → AtWork now → isUnderway (now .answer) ≡ true → isIdle (now .panel .writer) ≡ false
-works now p e = not-true (isIdle (now .panel .writer)) (sym (p .busy) ∙ e)
+pub works : (now : Outcome) → AtWork now → isUnderway (now .answer) ≡ true → isWriterIdle (now .panel .writer .work) ≡ false
+works now p e = not-true (isWriterIdle (now .panel .writer .work)) (sym (p .busy) ∙ e)
 
-pub run-at-work : (panel : Record) (slots : List ℕ) → inRange (length slots) panel ≡ true → isIdle (panel .writer) ≡ false → AtWork (writerRuns panel slots (panel .writer))
+pub run-at-work : (panel : Record) (slots : List ℕ) → inRange (length slots) panel ≡ true → isWriterIdle (panel .writer .work) ≡ false → AtWork (writerRuns panel slots (panel .writer .work))
 run-at-work panel slots fits working = record { fits = run-in-range panel slots fits working; busy = run-ended panel slots fits working }
 
 -- a start, and what it leaves
@@ -111,26 +115,26 @@ module _ (panel : Record) (slots : List ℕ) (point : ℕ) (work : WriterWork) w
       let after-2 = not-refused (not (validPoint point)) 2 _ (omega arith) (after-1 .1) in
       with-writer-in-range (length slots) panel (not-false (inRange (length slots) panel) (after-1 .0)) work (h (not-false (validPoint point) (after-2 .0)))
 
-  begun : (n : ℕ) → startRefusal (length slots) panel point ≡ n → (validPoint point ≡ true → writerInRange (panel .k) work ≡ true) → isIdle work ≡ false → Begun (unlessRefused n panel slots (outcome (withWriter panel work) slots started))
-  unfolding unlessRefused isUnderway withWriter
+  begun : (n : ℕ) → startRefusal (length slots) panel point ≡ n → (validPoint point ≡ true → writerInRange (panel .k) work ≡ true) → isWriterIdle work ≡ false → Begun (unlessRefused n panel slots (outcome (withWriter panel work) slots started))
+  unfolding unlessRefused withWriter
   begun zero e h w = record { fits = λ u. started-fits e h; works = λ u. w }
   begun (suc n) e h w = record { fits = λ u. absurd (false≢true u); works = λ u. absurd (false≢true u) }
 
-  pub start-begins : (validPoint point ≡ true → writerInRange (panel .k) work ≡ true) → isIdle work ≡ false → Begun (startWriter panel slots point work)
+  pub start-begins : (validPoint point ≡ true → writerInRange (panel .k) work ≡ true) → isWriterIdle work ≡ false → Begun (startWriter panel slots point work)
   unfolding startWriter
   start-begins h w = begun (startRefusal (length slots) panel point) refl h w
 
 module _ (panel : Record) (slots : List ℕ) (point : ℕ) where
   pub put-begins : (value : ℕ) → Begun (startPut panel slots point value)
-  unfolding startPut writerInRange putInRange putStageInRange searchInRange isIdle
+  unfolding startPut writerInRange putInRange putStageInRange searchInRange
   put-begins value = start-begins panel slots point _ (λ valid. both-true (validPoint point) true valid refl) refl
 
   pub change-begins : (keep flip : ℕ) → Begun (startChange panel slots point keep flip)
-  unfolding startChange writerInRange changeInRange alterationInRange changeStageInRange searchInRange isIdle
+  unfolding startChange writerInRange changeInRange alterationInRange changeStageInRange searchInRange
   change-begins keep flip = start-begins panel slots point _ (λ valid. both-true (validPoint point) (both true true) valid (both-true true true refl refl)) refl
 
   pub removal-begins : Begun (startRemoval panel slots point)
-  unfolding startRemoval writerInRange removalInRange removalStageInRange searchInRange isIdle
+  unfolding startRemoval writerInRange removalInRange removalStageInRange searchInRange
   removal-begins = start-begins panel slots point _ (λ valid. both-true (validPoint point) true valid refl) refl
 
 writer-inside : (panel : Record) (work : WriterWork) → 1 ≤ panel .m → slotNamed (writerAccess panel work) < panel .m
@@ -143,24 +147,24 @@ writer-inside panel (Removing removal) low = removal-inside panel removal low
 module _ (panel : Record) (slots : List ℕ) where
   -- m, k, the number of slots and the readers stay
   pub step-keeps : Keeps panel slots (stepWriter panel slots)
-  unfolding stepWriter writerRuns moved withWriter
+  unfolding stepWriter writerRuns afterStep withWriter
   step-keeps =
       unless (Keeps panel slots) (stepRefusal (length slots) panel) panel slots _
       (λ answer. record { length-stays = refl; m-stays = refl; k-stays = refl; readers-stay = refl })
       (λ e.
       let leaves = update-leaves panel _ in
       record {
-        length-stays = slots-length slots (writerAccess panel (panel .writer));
+        length-stays = slots-length slots (writerAccess panel (panel .writer .work));
         m-stays = leaves .m-stays;
         k-stays = leaves .k-stays;
         readers-stay = leaves .readers-stay;
       })
 
-  at-work : stepRefusal (length slots) panel ≡ 0 → (inRange (length slots) panel ≡ true) × (isIdle (panel .writer) ≡ false)
+  at-work : stepRefusal (length slots) panel ≡ 0 → (inRange (length slots) panel ≡ true) × (isWriterIdle (panel .writer .work) ≡ false)
   unfolding stepRefusal
   at-work e =
       let after-1 = not-refused (not (inRange (length slots) panel)) 1 _ (omega arith) e in
-      let after-5 = not-refused (isIdle (panel .writer)) 5 _ (omega arith) (after-1 .1) in
+      let after-5 = not-refused (isWriterIdle (panel .writer .work)) 5 _ (omega arith) (after-1 .1) in
       (not-false (inRange (length slots) panel) (after-1 .0), after-5 .0)
 
   pub step-in-range : inRange (length slots) panel ≡ true → inRange (length (stepWriter panel slots .slots)) (stepWriter panel slots .panel) ≡ true
@@ -169,9 +173,9 @@ module _ (panel : Record) (slots : List ℕ) where
       unless (λ (o : Outcome). inRange (length (o .slots)) (o .panel) ≡ true) (stepRefusal (length slots) panel) panel slots _ (λ answer. fits)
       (λ e. let w = at-work e in run-in-range panel slots (w .0) (w .1))
 
-  reach-after : writerRuns panel slots (panel .writer) .panel .reach ≡ reachStored (panel .reach) (writerAccess panel (panel .writer))
-  unfolding writerRuns moved withWriter
-  reach-after = update-leaves panel _ .reach-after ∙ writer-reach panel (panel .writer) _
+  reach-after : writerRuns panel slots (panel .writer .work) .panel .reach ≡ reachStored (panel .reach) (writerAccess panel (panel .writer .work))
+  unfolding writerRuns afterStep withWriter
+  reach-after = update-leaves panel _ .reach-after ∙ writer-reach panel (panel .writer .work) _ _
 
   does : (access : WriterAccess) → slotNamed access < length slots → (after : Outcome) → after .slots ≡ slotsAfter slots access → after .panel .reach ≡ reachStored (panel .reach) access → Does (panel .reach) slots after access
   unfolding slotsAfter reachStored slotNamed
@@ -182,11 +186,11 @@ module _ (panel : Record) (slots : List ℕ) where
       (λ other h. ap (λ (l : List ℕ). getD l other 0) e ∙ getD-set-other slots (store .slot) other (store .word) 0 h) r
 
   -- "A step reads or stores exactly one slot, or reads or stores the reach": the one that its access names, and no other
-  pub step-does : stepRefusal (length slots) panel ≡ 0 → Does (panel .reach) slots (stepWriter panel slots) (writerAccess panel (panel .writer))
-  unfolding writerRuns moved
+  pub step-does : stepRefusal (length slots) panel ≡ 0 → Does (panel .reach) slots (stepWriter panel slots) (writerAccess panel (panel .writer .work))
+  unfolding writerRuns afterStep
   step-does e =
       let w = at-work e in
       let sizes = sizes-in-range (length slots) panel (w .0) in
-      let inside = writer-inside panel (panel .writer) (sizes .m-low) in
-      transport (λ j. Does (panel .reach) slots (sym (allowed panel slots (w .0) (w .1)) j) (writerAccess panel (panel .writer)))
-      (does (writerAccess panel (panel .writer)) (omega (arith, inside, sizes .whole)) (writerRuns panel slots (panel .writer)) refl reach-after)
+      let inside = writer-inside panel (panel .writer .work) (sizes .m-low) in
+      transport (λ j. Does (panel .reach) slots (sym (allowed panel slots (w .0) (w .1)) j) (writerAccess panel (panel .writer .work)))
+      (does (writerAccess panel (panel .writer .work)) (omega (arith, inside, sizes .whole)) (writerRuns panel slots (panel .writer .work)) refl reach-after)

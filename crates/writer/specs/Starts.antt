@@ -13,16 +13,16 @@ use Rattle.record.specs.declared.RemovalStage.the-variants.{Searching as Remova
 use Rattle.record.specs.declared.WriterWork.{WriterWork}
 use Rattle.record.specs.declared.WriterWork.the-variants.{Putting, Changing, Removing}
 use Rattle.record.specs.Parts.{withWriter}
-use Rattle.work_ranges.specs.WorkRanges.{validPoint}
+use Rattle.slot_words.specs.Points.{validPoint}
 use Rattle.record_ranges.specs.Ranges.{inRange}
 use Rattle.answers.specs.Answers.{started, Outcome, outcome, unlessRefused}
-use Rattle.moves.specs.Moves.{isIdle}
+use Rattle.record.specs.Idle.{isWriterIdle}
 
 -- "put, change, remove 1, 2, 4"
 unfoldable pub startRefusal : ℕ → Record → ℕ → ℕ
 startRefusal lent panel point =
     refuseIf (not (inRange lent panel)) 1
-    (refuseIf (not (validPoint point)) 2 (refuseIf (not (isIdle (panel .writer))) 4 0))
+    (refuseIf (not (validPoint point)) 2 (refuseIf (not (isWriterIdle (panel .writer .work))) 4 0))
 
 -- the writer is given its work, unless the call is refused
 unfoldable pub startWriter : Record → List ℕ → ℕ → WriterWork → Outcome

@@ -9,10 +9,10 @@ use Rattle.record.specs.declared.Record.{Record}
 use Rattle.record_ranges.specs.Ranges.{inRange}
 use Rattle.answers.specs.Answers.{isUnderway, Outcome}
 use Rattle.search.specs.declared.access.ReadAccess.{ReadAccess}
-use Rattle.moves.specs.declared.memory.Store.{Store}
-use Rattle.moves.specs.declared.memory.WriterAccess.{WriterAccess}
-use Rattle.moves.specs.declared.memory.WriterAccess.the-variants.{Read, StoreReach, StoreSlot}
-use Rattle.moves.specs.Moves.{isIdle}
+use Rattle.effects.specs.declared.memory.Store.{Store}
+use Rattle.effects.specs.declared.memory.WriterAccess.{WriterAccess}
+use Rattle.effects.specs.declared.memory.WriterAccess.the-variants.{Read, StoreReach, StoreSlot}
+use Rattle.record.specs.Idle.{isWriterIdle}
 
 -- "reads or stores exactly one slot, or reads or stores the reach": what the access does to the slots and to the reach
 pub data Does (reach : ℕ) (slots : List ℕ) (after : Outcome) : WriterAccess → Type 0 where
@@ -30,4 +30,4 @@ pub record Keeps (panel : Record) (slots : List ℕ) (after : Outcome) : Type 0 
 -- what a start leaves: unless it was refused, a record in range with a writer at work
 pub record Begun (now : Outcome) : Type 0 where
   pub fits : isUnderway (now .answer) ≡ true → inRange (length (now .slots)) (now .panel) ≡ true
-  pub works : isUnderway (now .answer) ≡ true → isIdle (now .panel .writer) ≡ false
+  pub works : isUnderway (now .answer) ≡ true → isWriterIdle (now .panel .writer .work) ≡ false

@@ -8,8 +8,6 @@ pub use starts::judge_start;
 pub use starts::start_change;
 pub use starts::start_put;
 pub use starts::start_removal;
-pub use step::WriterOutcome;
-pub use step::has_no_work;
 pub use step::step_writer;
 pub use step::writer_access;
 pub use step::writer_advance;

@@ -3,8 +3,8 @@ ghost use mathlib.Core.Path.{_≡_};
 ghost use Rattle.refusal.specs.Refusals.{paperJudged};
 ghost use Rattle.answers.specs.Answers.{paperStart, outcome};
 ghost use Rattle.writer.specs.Starts.{startRefusal, startWriter, startPut, startChange, startRemoval};
-use crate::step::has_no_work;
 use answers::StartAnswer;
+use answers::StartOutcome;
 use record::Alteration;
 use record::Change;
 use record::ChangeStage;
@@ -16,12 +16,12 @@ use record::Removal;
 use record::RemovalStage;
 use record::Search;
 use record::WriterWork;
+use record::idle::is_writer_idle;
 use record::parts::with_writer;
 use record_ranges::is_in_range;
 use refusal::Judged;
 use refusal::Refusal;
-use table::StartOutcome;
-use work_ranges::is_valid_point;
+use slot_words::points::is_valid_point;
 
 // Document 01's order: 1, 2, 4.
 pub fn judge_start(panel: Record, lent: usize, point: u32) -> Judged
@@ -33,8 +33,9 @@ pub fn judge_start(panel: Record, lent: usize, point: u32) -> Judged
     if !is_valid_point(point) {
         return Judged::Refused(Refusal::Address);
     }
-    let work = panel.writer;
-    if !has_no_work(work) {
+    let writer = panel.writer;
+    let work = writer.work;
+    if !is_writer_idle(work) {
         return Judged::Refused(Refusal::Engaged);
     }
     Judged::Allowed

@@ -2,21 +2,25 @@
 ghost use mathlib.Core.Path.{_≡_};
 ghost use Rattle.refusal.specs.Refusals.{paperJudged};
 ghost use Rattle.record.specs.Parts.{withWriter};
-ghost use Rattle.answers.specs.Answers.{paperWriter, outcome};
-ghost use Rattle.moves.specs.Moves.{isIdle, updated, paperMoved};
+ghost use Rattle.answers.specs.Answers.{stepAnswer, paperProgress, paperStep, outcome};
+ghost use Rattle.effects.specs.Effects.{updated, paperEffect};
 ghost use Rattle.writer.specs.Step.{writerAccess, writerAdvance, stepRefusal, writerRuns, stepWriter};
-use answers::WriterAnswer;
+use answers::StepAnswer;
+use answers::StepOutcome;
+use answers::result_of;
 use change::change_access;
 use change::change_advance;
-use moves::memory::WriterAccess;
-use moves::memory::perform;
-use moves::update::Moved;
-use moves::update::Update;
-use moves::update::with_update;
+use effects::memory::WriterAccess;
+use effects::memory::perform;
+use effects::memory::slot_stored;
+use effects::update::Effect;
+use effects::update::underway;
+use effects::update::with_update;
 use put::put_access;
 use put::put_advance;
 use record::Record;
 use record::WriterWork;
+use record::idle::is_writer_idle;
 use record::parts::with_writer;
 use record_ranges::is_in_range;
 use refusal::Judged;
@@ -24,23 +28,6 @@ use refusal::Refusal;
 use removal::removal_access;
 use removal::removal_advance;
 use search::access::ReadAccess;
-
-// What the writer's step leaves besides the slots: the record, and the answer.
-pub struct WriterOutcome {
-    pub panel: Record,
-    pub answer: WriterAnswer,
-}
-
-pub fn has_no_work(work: WriterWork) -> bool
-    ensures { λ r. ⌜ r ≡ isIdle work ⌝ }
-{
-    match work {
-        WriterWork::Idle => true,
-        WriterWork::Putting(_) => false,
-        WriterWork::Changing(_) => false,
-        WriterWork::Removing(_) => false,
-    }
-}
 
 // Part 1: the access that comes next.
 pub fn writer_access(panel: Record, work: WriterWork) -> WriterAccess
@@ -54,17 +41,14 @@ pub fn writer_access(panel: Record, work: WriterWork) -> WriterAccess
     }
 }
 
-// Part 3: what follows from the reach, or from the word read or stored.
-pub fn writer_advance(panel: Record, work: WriterWork, word: u64) -> Moved
-    ensures { λ r. ⌜ paperMoved r ≡ writerAdvance panel work word ⌝ }
+// Part 3: what follows from the reach, from the word read, or from the slot stored. A writer without work
+// never comes to it: its step is refused with 5.
+pub fn writer_advance(panel: Record, work: WriterWork, slot: u32, word: u64) -> Effect
+    ensures { λ r. ⌜ paperEffect r ≡ writerAdvance panel work slot word ⌝ }
 {
     match work {
-        WriterWork::Idle => Moved {
-            work: WriterWork::Idle,
-            update: Update::Nothing,
-            answer: WriterAnswer::Refused(Refusal::Idle),
-        },
-        WriterWork::Putting(put) => put_advance(put, panel.m, panel.k, panel.reach, word),
+        WriterWork::Idle => underway(WriterWork::Idle),
+        WriterWork::Putting(put) => put_advance(put, panel.k, panel.reach, slot, word),
         WriterWork::Changing(change) => change_advance(change, panel.reach, word),
         WriterWork::Removing(removal) => removal_advance(panel, removal, word),
     }
@@ -77,43 +61,49 @@ fn judge_step(panel: Record, lent: usize) -> Judged
     if !is_in_range(panel, lent) {
         return Judged::Refused(Refusal::Misfit);
     }
-    let work = panel.writer;
-    if has_no_work(work) {
+    let writer = panel.writer;
+    let work = writer.work;
+    if is_writer_idle(work) {
         return Judged::Refused(Refusal::Idle);
     }
     Judged::Allowed
 }
 
 // The record after the step, and the answer.
-fn finish(panel: Record, next: Moved) -> WriterOutcome
-    ensures { λ r. ⌜ (r .panel ≡ withWriter (updated panel (next .update)) (next .work)) × (r .answer ≡ next .answer) ⌝ }
+fn finish(panel: Record, next: Effect) -> StepOutcome
+    ensures { λ r. ⌜ (r .panel ≡ withWriter (updated panel (next .update)) (next .work)) × (paperStep (r .answer) ≡ stepAnswer (paperProgress (next .progress))) ⌝ }
 {
     let work = next.work;
     let update = next.update;
-    let answer = next.answer;
-    WriterOutcome {
+    let progress = next.progress;
+    StepOutcome {
         panel: with_writer(with_update(panel, update), work),
-        answer: answer,
+        answer: StepAnswer::Stepped(result_of(progress)),
     }
 }
 
 // The three parts of a step.
-fn run_step(panel: Record, slots: &mut [u64]) -> WriterOutcome
-    ensures { λ r. ⌜ outcome (r .panel) (now (slots .exit)) (paperWriter (r .answer)) ≡ writerRuns panel (now (slots .entry)) (panel .writer) ⌝ }
+fn run_step(panel: Record, slots: &mut [u64]) -> StepOutcome
+    ensures { λ r. ⌜ outcome (r .panel) (now (slots .exit)) (paperStep (r .answer)) ≡ writerRuns panel (now (slots .entry)) (panel .writer .work) ⌝ }
 {
-    let work = panel.writer;
-    let word = perform(slots, writer_access(panel, work));
-    finish(panel, writer_advance(panel, work, word))
+    let writer = panel.writer;
+    let work = writer.work;
+    let access = writer_access(panel, work);
+    let word = perform(slots, access);
+    finish(
+        panel,
+        writer_advance(panel, work, slot_stored(access), word),
+    )
 }
 
 // The next step of the writer's put, change or removal.
-pub fn step_writer(panel: Record, slots: &mut [u64]) -> WriterOutcome
-    ensures { λ r. ⌜ outcome (r .panel) (now (slots .exit)) (paperWriter (r .answer)) ≡ stepWriter panel (now (slots .entry)) ⌝ }
+pub fn step_writer(panel: Record, slots: &mut [u64]) -> StepOutcome
+    ensures { λ r. ⌜ outcome (r .panel) (now (slots .exit)) (paperStep (r .answer)) ≡ stepWriter panel (now (slots .entry)) ⌝ }
 {
     match judge_step(panel, slots.len()) {
-        Judged::Refused(refusal) => WriterOutcome {
+        Judged::Refused(refusal) => StepOutcome {
             panel: panel,
-            answer: WriterAnswer::Refused(refusal),
+            answer: StepAnswer::Refused(refusal),
         },
         Judged::Allowed => run_step(panel, slots),
     }

@@ -1,7 +1,8 @@
 -- `bench::run_whole_lines` ends: it counts its turns down.
-use mathlib.Core.Path.{_≡_}
-use borrow.Author.Needs.{needs}
+use mathlib.Core.Path.{_≡_, _∙_}
+use native.Mathlib.Omega.{arith}
 use lib.ListN.{length}
+use borrow.Author.Needs.{needs}
 use Rattle.bench.proofs.run_whole_lines.Statement.{statement}
 use Rattle.bench.proofs.run_whole_lines.Tie as tie
 
@@ -20,29 +21,23 @@ wrapping-add-u64-requires c κs = search needs
 run-line-requires : tie.Need-run-line-requires Inv-loop μ-loop
 run-line-requires c κs = search needs
 
-sub-panel : tie.Need-sub-panel Inv-loop μ-loop
-sub-panel c = search needs
+has-changes-requires : tie.Need-has-changes-requires Inv-loop μ-loop
+has-changes-requires c κs = search needs
 
-cast-panel : tie.Need-cast-panel Inv-loop μ-loop
-cast-panel c = search needs
-
-mul-panel : tie.Need-mul-panel Inv-loop μ-loop
-mul-panel c = search needs
-
-element-write-panel : tie.Need-element-write-panel Inv-loop μ-loop
-element-write-panel c = search needs
+with-changes-requires : tie.Need-with-changes-requires Inv-loop μ-loop
+with-changes-requires c κs = search needs
 
 line-after-requires : tie.Need-line-after-requires Inv-loop μ-loop
 line-after-requires c κs = search needs
 
 sub-turns : tie.Need-sub-turns Inv-loop μ-loop
-sub-turns c = search needs
+sub-turns c = omega (arith, c .before .before .before .before .before .before .before .before .before .before .before .before .before .before .before .loop-test)
 
 loop-less : tie.Need-loop-less Inv-loop μ-loop
-loop-less c = search needs
+loop-less c = omega (arith, c .before .before .before .before .before .before .before .before .before .before .before .before .before .before .before .loop-test)
 
 loop-again : tie.Need-loop-again Inv-loop μ-loop
-loop-again c = search needs
+loop-again c = (c .before .before .before .before .before .before .before .slots .given ∙ c .before .before .before .before .before .before .before .before .before .before .before .before .before .before .before .before .loop .inv .0, c .before .before .before .before .before .text .given ∙ c .before .before .before .before .before .before .before .before .before .before .before .before .before .before .before .before .loop .inv .1)
 
 same-length : tie.Need-same-length Inv-loop μ-loop
 same-length c = search needs
@@ -71,10 +66,8 @@ run-whole-lines-spec =
     loop-holds
     wrapping-add-u64-requires
     run-line-requires
-    sub-panel
-    cast-panel
-    mul-panel
-    element-write-panel
+    has-changes-requires
+    with-changes-requires
     line-after-requires
     sub-turns
     loop-less

@@ -2,7 +2,7 @@
 use mathlib.Core.Path.{_∙_, ap}
 use borrow.Author.Needs.{needs}
 use Rattle.slot_words.specs.Word.{wordOf}
-use Rattle.moves.specs.Memory.{storeWord}
+use Rattle.effects.specs.Memory.{storeWord}
 use Rattle.change.specs.Change.{changeAccess, changeStageAccess}
 use Rattle.change.proofs.change_access.Statement.{statement}
 use Rattle.change.proofs.change_access.Tie as tie

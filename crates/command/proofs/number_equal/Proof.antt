@@ -3,7 +3,7 @@ use mathlib.Core.Path.{_≡_, sym, _∙_}
 use Rattle.command.specs.Command.{numberEqual}
 use mathlib.Core.Bool.{true, false}
 use lib.Dec.{eqb}
-use Rattle.refusal.specs.Judging.{both}
+use Rattle.conditions.specs.Conditions.{both}
 use borrow.Author.Needs.{needs}
 use Rattle.command.proofs.number_equal.Statement.{statement}
 use Rattle.command.proofs.number_equal.Tie as tie

@@ -5,8 +5,8 @@ use native.Mathlib.Omega.{arith}
 use borrow.Author.Tests.{ltb-true}
 use borrow.Author.Needs.{needs}
 use lib.Dec.{ltb}
-use Rattle.refusal.proofs.Laws.{both-left, both-right}
-use Rattle.refusal.specs.Judging.{both}
+use Rattle.conditions.proofs.ConditionLaws.{both-left, both-right}
+use Rattle.conditions.specs.Conditions.{both}
 use Rattle.slot_words.specs.Word.{pointOf}
 use Rattle.disabled_points.specs.Disabled.{holdsDisabled, lowerOf}
 use Rattle.disabled_points.proofs.DisabledLaws.{not-lower}

@@ -31,8 +31,8 @@ enum-known-call-3 c = search needs
 step-reader-requires : tie.Need-step-reader-requires
 step-reader-requires c κs = search needs
 
-read-requires : tie.Need-read-requires
-read-requires c κs = search needs
+stepped-requires : tie.Need-stepped-requires
+stepped-requires c κs = search needs
 
 enum-known-call-4 : tie.Need-enum-known-call-4
 enum-known-call-4 c = search needs
@@ -76,8 +76,8 @@ enum-told-2 c = search needs
 step-writer-requires : tie.Need-step-writer-requires
 step-writer-requires c κs = search needs
 
-written-requires : tie.Need-written-requires
-written-requires c κs = search needs
+stepped-requires-2 : tie.Need-stepped-requires-2
+stepped-requires-2 c κs = search needs
 
 same-length : tie.Need-same-length
 same-length c = search needs
@@ -108,7 +108,7 @@ returns-3 : tie.Need-returns-3
 unfolding applied
 returns-3 c =
     let a = c .before .before .before .before .before .before .before .before .args in
-    c .read .ensures (now (a .slots))
+    c .stepped .ensures (now (a .slots))
     ∙ c .before .step-reader .ensures
     ∙ sym (ap (λ (call : Call). applied (a .panel) (now (a .slots)) call (now (a .frame))) (c .before .before .before .before .call3 .given .1))
 
@@ -163,7 +163,7 @@ returns-8 : tie.Need-returns-8
 unfolding applied
 returns-8 c =
     let a = c .before .before .before .before .before .before .before .before .before .args in
-    c .written .ensures _
+    c .stepped2 .ensures _
     ∙ c .before .before .before .step-writer .ensures
     ∙ sym (ap (λ (call : Call). applied (a .panel) (now (a .slots)) call (now (a .frame))) (c .before .before .before .before .before .enum-told2 .given .1))
 
@@ -179,7 +179,7 @@ apply-spec =
     started-requires-2
     enum-known-call-3
     step-reader-requires
-    read-requires
+    stepped-requires
     enum-known-call-4
     start-put-requires
     started-requires-3
@@ -194,7 +194,7 @@ apply-spec =
     entered-requires
     enum-told-2
     step-writer-requires
-    written-requires
+    stepped-requires-2
     same-length
     returns
     same-length-2

@@ -1,5 +1,5 @@
 -- `orders::run_lines` ends: it counts its turns down.
-use mathlib.Core.Path.{_≡_}
+use mathlib.Core.Path.{_≡_, _∙_}
 use borrow.Author.Needs.{needs}
 use lib.ListN.{length as size}
 use Rattle.orders.proofs.run_lines.Statement.{statement}
@@ -30,7 +30,9 @@ loop-less : tie.Need-loop-less Inv-loop μ-loop
 loop-less c = search needs
 
 loop-again : tie.Need-loop-again Inv-loop μ-loop
-loop-again c = search needs
+loop-again c =
+    let l = c .before .before .before .before .before .before .before .before .before .before .before .before .before .before .before .before .before .before .before .before .before .loop .inv in
+    (c .before .before .before .before .before .before .before .before .before .before .before .slots .given ∙ l .0, c .before .before .before .before .before .before .before .before .before .words .given ∙ l .1, c .before .before .before .before .before .before .before .places .given ∙ l .2, c .before .line2 .given ∙ l .3, c .before .before .before .before .before .out .given ∙ l .4)
 
 same-length : tie.Need-same-length Inv-loop μ-loop
 same-length c = search needs

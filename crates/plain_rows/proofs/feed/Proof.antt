@@ -2,7 +2,7 @@
 use mathlib.Core.Path.{_∙_, sym}
 use borrow.Author.Needs.{needs}
 use denote.Ref.{now}
-use Rattle.refusal.specs.Judging.{both}
+use Rattle.conditions.specs.Conditions.{both}
 use Rattle.plain_rows.specs.Fed.{fedRows}
 use Rattle.plain_rows.proofs.FedLaws.{true-room, misfits}
 use Rattle.plain_rows.proofs.feed.Statement.{statement}

@@ -1,8 +1,7 @@
 -- `plain_rows::feed_rows` meets its contract, operation by operation.
-use mathlib.Core.Path.{refl}
 use borrow.Author.Needs.{needs}
 use denote.Ref.{now}
-use Rattle.answers.specs.Answers.{refused}
+use Rattle.answers.specs.Answers.{endedWith}
 use Rattle.plain_list.specs.PlainList.{feed}
 use Rattle.plain_rows.specs.Fed.{fedRows}
 use Rattle.plain_rows.proofs.FedLaws.{feeds-nothing}
@@ -11,6 +10,9 @@ use Rattle.plain_rows.proofs.feed_rows.Tie as tie
 
 enum-told : tie.Need-enum-told
 enum-told c = search needs
+
+unknown-requires : tie.Need-unknown-requires
+unknown-requires c κs = search needs
 
 enum-known-operation : tie.Need-enum-known-operation
 enum-known-operation c = search needs
@@ -33,8 +35,8 @@ remove-row-requires c κs = search needs
 returns : tie.Need-returns
 unfolding fedRows feed
 returns c =
-    let a = c .before .before .before .before .args in
-    feeds-nothing (now (a .words)) (now (a .places)) (a .count) (c .before .before .before .before .pre) _ _ (refused 5) refl refl (rw (c .enum-told .given .1))
+    let a = c .before .before .before .before .before .args in
+    feeds-nothing (now (a .words)) (now (a .places)) (a .count) (c .before .before .before .before .before .pre) (c .unknown .result) _ (endedWith 7) (c .unknown .ensures .0) (c .unknown .ensures .1) (rw (c .before .enum-told .given .1))
 
 same-length : tie.Need-same-length
 same-length c = search needs
@@ -74,6 +76,7 @@ feed-rows-spec =
     tie.close
     (tie.spec
     enum-told
+    unknown-requires
     enum-known-operation
     put-row-requires
     enum-known-operation-2

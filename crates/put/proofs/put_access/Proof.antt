@@ -2,7 +2,7 @@
 use mathlib.Core.Path.{_∙_, ap}
 use borrow.Author.Tests.{lt-ltb, le-ltb}
 use borrow.Author.Needs.{needs}
-use Rattle.moves.specs.Memory.{storeWord}
+use Rattle.effects.specs.Memory.{storeWord}
 use Rattle.put.specs.Put.{exceeds, putAccess, putStageAccess}
 use Rattle.put.proofs.put_access.Statement.{statement}
 use Rattle.put.proofs.put_access.Tie as tie

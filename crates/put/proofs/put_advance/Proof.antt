@@ -22,9 +22,6 @@ put-scanned-requires c κs = search needs
 enum-known-stage-3 : tie.Need-enum-known-stage-3
 enum-known-stage-3 c = search needs
 
-position-requires : tie.Need-position-requires
-position-requires c κs = search needs
-
 ended-requires : tie.Need-ended-requires
 ended-requires c κs = search needs
 
@@ -60,7 +57,6 @@ put-advance-spec =
     enum-known-stage-2
     put-scanned-requires
     enum-known-stage-3
-    position-requires
     ended-requires
     enum-known-stage-4
     put-takes-requires

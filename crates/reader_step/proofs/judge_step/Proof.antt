@@ -3,7 +3,8 @@ use mathlib.Core.Path.{_∙_, sym, ap}
 use borrow.Author.Tests.{not-true, not-false, lt-ltb, le-ltb}
 use borrow.Author.Needs.{needs}
 use Rattle.refusal.specs.Judging.{refuseIf}
-use Rattle.reader_step.specs.Reader.{isIdle, stepRefusal}
+use Rattle.record.specs.Idle.{isReaderIdle}
+use Rattle.reader_step.specs.Reader.{stepRefusal}
 use Rattle.reader_step.proofs.judge_step.Statement.{statement}
 use Rattle.reader_step.proofs.judge_step.Tie as tie
 
@@ -21,16 +22,16 @@ returns-2 c = rw (sym (c .before .before .is-in-range .ensures) ∙ not-false _ 
 work-of-requires : tie.Need-work-of-requires
 work-of-requires c κs = search needs
 
-has-no-work-requires : tie.Need-has-no-work-requires
-has-no-work-requires c κs = search needs
+is-reader-idle-requires : tie.Need-is-reader-idle-requires
+is-reader-idle-requires c κs = search needs
 
 returns-3 : tie.Need-returns-3
 unfolding stepRefusal refuseIf
-returns-3 c = rw (sym (c .before .before .before .before .before .is-in-range .ensures) ∙ not-false _ (c .before .before .before .before .if1 .left), le-ltb _ _ (c .before .before .before .if2 .left), sym (c .before .has-no-work .ensures ∙ ap isIdle (c .before .before .work-of .ensures)) ∙ c .if3 .taken)
+returns-3 c = rw (sym (c .before .before .before .before .before .is-in-range .ensures) ∙ not-false _ (c .before .before .before .before .if1 .left), le-ltb _ _ (c .before .before .before .if2 .left), sym (c .before .is-reader-idle .ensures ∙ ap isReaderIdle (c .before .before .work-of .ensures)) ∙ c .if3 .taken)
 
 returns-4 : tie.Need-returns-4
 unfolding stepRefusal refuseIf
-returns-4 c = rw (sym (c .before .before .before .before .before .is-in-range .ensures) ∙ not-false _ (c .before .before .before .before .if1 .left), le-ltb _ _ (c .before .before .before .if2 .left), sym (c .before .has-no-work .ensures ∙ ap isIdle (c .before .before .work-of .ensures)) ∙ c .if3 .left)
+returns-4 c = rw (sym (c .before .before .before .before .before .is-in-range .ensures) ∙ not-false _ (c .before .before .before .before .if1 .left), le-ltb _ _ (c .before .before .before .if2 .left), sym (c .before .is-reader-idle .ensures ∙ ap isReaderIdle (c .before .before .work-of .ensures)) ∙ c .if3 .left)
 
 pub judge-step-spec : {M : Type 1} → statement M
 judge-step-spec =
@@ -40,6 +41,6 @@ judge-step-spec =
     returns
     returns-2
     work-of-requires
-    has-no-work-requires
+    is-reader-idle-requires
     returns-3
     returns-4)

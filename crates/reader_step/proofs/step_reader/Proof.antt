@@ -5,9 +5,9 @@ use borrow.Author.Needs.{needs}
 use denote.Ref.{now}
 use Rattle.refusal.specs.Refusals.{paperJudged}
 use Rattle.record.specs.Parts.{workOf}
-use Rattle.answers.specs.Answers.{outcome, unlessRefused, paperReader}
+use Rattle.answers.specs.Answers.{outcome, unlessRefused, paperStep}
 use Rattle.search.specs.Access.{wordRead}
-use Rattle.reader_step.specs.Reader.{stepReader, readerRuns, moved, readerAdvance}
+use Rattle.reader_step.specs.Reader.{stepReader, readerRuns, afterStep, readerAdvance}
 use Rattle.answers.proofs.AnswerLaws.{refused-outcome, allowed-outcome}
 use Rattle.reader_step.proofs.step_reader.Statement.{statement}
 use Rattle.reader_step.proofs.step_reader.Tie as tie
@@ -46,7 +46,7 @@ returns c =
     ∙ ap (λ (n : ℕ). unlessRefused n (a .panel) s (readerRuns (a .panel) s (a .reader) (workOf (a .panel) (a .reader)))) verdict
 
 returns-2 : tie.Need-returns-2
-unfolding stepReader readerRuns moved
+unfolding stepReader readerRuns afterStep
 returns-2 c =
     let a = c .before .before .before .before .before .before .before .before .before .args in
     let p = a .panel in
@@ -54,8 +54,8 @@ returns-2 c =
     let work = c .before .before .before .before .work-of .result in
     let word = c .before .before .word-read .ensures ∙ ap (wordRead s) (c .before .before .before .reader-access .ensures) in
     let verdict = sym (ap paperJudged (c .before .before .before .before .before .enum-told .given .1)) ∙ c .before .before .before .before .before .before .before .judge-step .ensures in
-    (λ j. outcome (c .finish .ensures .0 j) s (paperReader (c .finish .ensures .1 j)))
-    ∙ ap (moved p s (a .reader)) (c .before .reader-advance .ensures ∙ ap (readerAdvance (p .m) (p .reach) work) word)
+    (λ j. outcome (c .finish .ensures .0 j) s (paperStep (c .finish .ensures .1 j)))
+    ∙ ap (afterStep p s (a .reader)) (c .before .reader-advance .ensures ∙ ap (readerAdvance (p .m) (p .reach) work) word)
     ∙ ap (readerRuns p s (a .reader)) (c .before .before .before .before .work-of .ensures)
     ∙ sym (allowed-outcome p s (readerRuns (a .panel) s (a .reader) (workOf (a .panel) (a .reader))))
     ∙ ap (λ (n : ℕ). unlessRefused n p s (readerRuns (a .panel) s (a .reader) (workOf (a .panel) (a .reader)))) verdict

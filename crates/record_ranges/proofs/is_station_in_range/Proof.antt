@@ -2,7 +2,7 @@
 use native.Mathlib.Omega.{arith}
 use borrow.Author.Needs.{needs}
 use borrow.Author.Tests.{le-leb, eq-eqb, ne-eqb}
-use Rattle.refusal.specs.Judging.{both, either}
+use Rattle.conditions.specs.Conditions.{both, either}
 use Rattle.record_ranges.specs.Ranges.{stationInRange}
 use Rattle.record_ranges.proofs.is_station_in_range.Statement.{statement}
 use Rattle.record_ranges.proofs.is_station_in_range.Tie as tie

@@ -2,7 +2,7 @@
 use mathlib.Core.Path.{ap}
 use borrow.Author.Needs.{needs}
 use Rattle.removal.specs.Removal.{removalAccess, removalStageAccess}
-use Rattle.moves.specs.declared.memory.WriterAccess.the-variants.{Read, StoreReach}
+use Rattle.effects.specs.declared.memory.WriterAccess.the-variants.{Read, StoreReach}
 use Rattle.removal.proofs.removal_access.Statement.{statement}
 use Rattle.removal.proofs.removal_access.Tie as tie
 

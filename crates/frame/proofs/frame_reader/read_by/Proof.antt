@@ -3,11 +3,10 @@ use mathlib.Core.Path.{sym, ap, _∙_}
 use borrow.Author.Tests.{ne-eqb}
 use denote.Ref.{now}
 use Rattle.refusal.specs.Judging.{refuseIf}
-use Rattle.refusal.specs.Refusals.{numberOf}
+use Rattle.refusal.specs.Refusals.{numberOf, paperJudged}
 use Rattle.refusal.proofs.Laws.{number-positive}
 use Rattle.frame.specs.FieldMap.{mapOf}
 use Rattle.frame.specs.Frames.{handed}
-use Rattle.refusal.specs.Refusals.{paperJudged}
 use Rattle.frame.specs.Layouts.{readingBy}
 use Rattle.frame.proofs.Outcomes.{handed-refused, reading-of-length}
 use borrow.Author.Needs.{needs}

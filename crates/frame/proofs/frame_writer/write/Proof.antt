@@ -1,10 +1,9 @@
 -- `frame::frame_writer::write` meets its contract: the map byte, the ranges, the room, and then the stores.
 use mathlib.Core.Path.{sym, ap, _∙_}
 use denote.Ref.{now}
-use Rattle.refusal.specs.Refusals.{numberOf}
+use Rattle.refusal.specs.Refusals.{numberOf, paperJudged}
 use Rattle.refusal.proofs.Laws.{number-positive}
 use Rattle.frame.specs.declared.layout.Layout.{Layout}
-use Rattle.refusal.specs.Refusals.{paperJudged}
 use Rattle.frame.specs.Layouts.{putFrame}
 use Rattle.frame.proofs.LayoutLaws.{chosen, not-allowed, length-laid}
 use Rattle.frame.proofs.Outcomes.{write-not-allowed, write-out-of-range, write-short, write-whole}

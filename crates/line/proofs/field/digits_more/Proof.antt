@@ -3,7 +3,7 @@ use mathlib.Core.Path.{_∙_, sym}
 use native.Mathlib.Omega.{arith}
 use borrow.Author.Tests.{lt-ltb, le-ltb}
 use borrow.Author.Needs.{needs}
-use Rattle.refusal.proofs.Laws.{within-low}
+use Rattle.conditions.proofs.ConditionLaws.{within-low}
 use Rattle.line.specs.Grammar.{digit}
 use Rattle.line.specs.LineState.{digitsMore}
 use Rattle.line.proofs.field.digits_more.Statement.{statement}

@@ -7,7 +7,7 @@ use native.Mathlib.Omega.{arith}
 use borrow.Author.Tests.{not-true, not-false}
 use borrow.Author.Needs.{needs}
 use denote.Ref.{now}
-use Rattle.refusal.proofs.Laws.{within-low, within-high}
+use Rattle.conditions.proofs.ConditionLaws.{within-low, within-high}
 use Rattle.line.specs.Grammar.{digit}
 use Rattle.line.proofs.RunLaws.{leftAt, RunRead, run-begun, run-few, run-small, run-more, left-other, left-stopped, run-ended}
 use Rattle.line.proofs.run.digits_run.Statement.{statement}

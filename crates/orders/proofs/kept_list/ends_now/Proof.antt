@@ -1,6 +1,6 @@
 -- `orders::kept_list::ends_now` meets its contract.
 use mathlib.Core.Path.{ap₂, _∙_}
-use Rattle.refusal.specs.Judging.{both}
+use Rattle.conditions.specs.Conditions.{both}
 use Rattle.answers.specs.Answers.{paperCall}
 use Rattle.orders.proofs.KeptLaws.{ends-by-step}
 use borrow.Author.Needs.{needs}

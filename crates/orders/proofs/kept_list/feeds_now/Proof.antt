@@ -1,7 +1,7 @@
 -- `orders::kept_list::feeds_now` meets its contract.
 use mathlib.Core.Bool.{Bool, not}
 use mathlib.Core.Path.{ap, ap₂, _∙_}
-use Rattle.refusal.specs.Judging.{both, either}
+use Rattle.conditions.specs.Conditions.{both, either}
 use Rattle.orders.specs.Kept.{feedsAfter}
 use borrow.Author.Needs.{needs}
 use Rattle.orders.proofs.kept_list.feeds_now.Statement.{statement}

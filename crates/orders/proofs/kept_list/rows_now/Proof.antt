@@ -1,6 +1,6 @@
 -- `orders::kept_list::rows_now` meets its contract, by whether the list is fed.
 use mathlib.Core.Path.{refl, ap}
-use Rattle.plain_list.specs.PlainList.{Told}
+use Rattle.plain_rows.specs.Fed.{Feeding}
 use borrow.Author.Needs.{needs}
 use Rattle.orders.proofs.kept_list.rows_now.Statement.{statement}
 use Rattle.orders.proofs.kept_list.rows_now.Tie as tie
@@ -19,7 +19,7 @@ returns c =
     let fed = c .before .before .before .before .feed .ensures in
     rw (c .before .before .before .before .before .before .before .if1 .taken)
     (record {
-      shown = ap (λ (t : Told). t .rows) (fed .shown);
+      shown = ap (λ (t : Feeding). t .rows) (fed .shown);
       words-length = fed .words-stay .size;
       places-length = fed .places-stay .size;
     })

@@ -1,11 +1,11 @@
 -- `orders::kept_list::stores_now` meets its contract.
 use mathlib.Core.Bool.{not}
 use mathlib.Core.Path.{ap, ap₂, _∙_}
-use Rattle.refusal.specs.Judging.{both}
-use Rattle.answers.specs.Answers.{paperCall}
-use Rattle.moves.specs.Memory.{storesSlot}
-use Rattle.orders.proofs.KeptLaws.{stores-by-step}
 use borrow.Author.Needs.{needs}
+use Rattle.conditions.specs.Conditions.{both}
+use Rattle.answers.specs.Answers.{paperCall}
+use Rattle.effects.specs.Memory.{storesSlot}
+use Rattle.orders.proofs.KeptLaws.{stores-by-step}
 use Rattle.orders.proofs.kept_list.stores_now.Statement.{statement}
 use Rattle.orders.proofs.kept_list.stores_now.Tie as tie
 
@@ -29,7 +29,7 @@ both-hold-requires-2 c κs = search needs
 
 returns : tie.Need-returns
 returns c frame =
-    let a = c .before .before .before .before .before .before .args in
+    let a = c .before .before .before .before .before .before .before .args in
     c .both-hold2 .ensures
     ∙ ap₂ both (c .before .is-writer-step .ensures)
     (c .before .before .both-hold .ensures

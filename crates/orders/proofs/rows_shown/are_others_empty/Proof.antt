@@ -7,7 +7,7 @@ use native.Mathlib.Omega.{arith}
 use denote.Ref.{now}
 use lib.Dec.{eqb}
 use lib.ListN.{length}
-use Rattle.refusal.specs.Judging.{both, either}
+use Rattle.conditions.specs.Conditions.{both, either}
 use Rattle.plain_rows.specs.Rows.{rowsOf}
 use Rattle.orders.specs.Verdict.{othersEmpty}
 use Rattle.orders.proofs.VerdictLaws.{others-more}

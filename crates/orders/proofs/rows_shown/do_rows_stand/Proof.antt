@@ -3,7 +3,7 @@ use Prim.Native.Nat.{ℕ, _-_, _≤_}
 use mathlib.Core.Path.{_≡_, refl, ap, ap₂, _∙_}
 use native.Mathlib.Omega.{arith}
 use denote.Ref.{now}
-use Rattle.refusal.specs.Judging.{both}
+use Rattle.conditions.specs.Conditions.{both}
 use Rattle.plain_rows.specs.Rows.{rowsOf}
 use Rattle.orders.specs.Verdict.{stands, rowsStand}
 use Rattle.orders.proofs.VerdictLaws.{stand-more}

@@ -1,7 +1,7 @@
 -- `orders::rows_shown::do_show` meets its contract: the two tests decide.
 use mathlib.Core.Path.{ap₂, _∙_}
 use denote.Ref.{now}
-use Rattle.refusal.specs.Judging.{both}
+use Rattle.conditions.specs.Conditions.{both}
 use Rattle.plain_rows.specs.Rows.{rowsOf}
 use Rattle.orders.proofs.VerdictLaws.{decided}
 use borrow.Author.Needs.{needs}

@@ -6,7 +6,7 @@ use mathlib.Core.List.{List}
 use native.Mathlib.Omega.{arith}
 use denote.Ref.{now}
 use lib.Dec.{eqb}
-use Rattle.refusal.specs.Judging.{either}
+use Rattle.conditions.specs.Conditions.{either}
 use Rattle.plain_list.specs.PlainList.{isPlace}
 use Rattle.plain_rows.specs.Rows.{rowsOf}
 use Rattle.orders.proofs.VerdictLaws.{place-more}

@@ -4,7 +4,7 @@ use mathlib.Core.Path.{ap, _∙_}
 use denote.Ref.{now}
 use lib.Dec.{eqb, ltb}
 use lib.ListN.{length}
-use Rattle.refusal.specs.Judging.{both}
+use Rattle.conditions.specs.Conditions.{both}
 use Rattle.orders.specs.Verdict.{stands}
 use borrow.Author.Needs.{needs}
 use Rattle.orders.proofs.rows_shown.stands.Statement.{statement}

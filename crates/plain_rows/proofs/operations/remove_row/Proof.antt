@@ -1,8 +1,9 @@
 -- `plain_rows::operations::remove_row` meets its contract, by whether the point has a row.
+use Prim.Native.Nat.{ℕ}
 use mathlib.Core.Path.{_≡_, _∙_, refl, sym, ap}
 use borrow.Author.Needs.{needs}
 use denote.Ref.{now}
-use Rattle.answers.specs.Answers.{removed, endedWith}
+use Rattle.answers.specs.Answers.{removed, endedWith, ended}
 use Rattle.plain_list.specs.PlainList.{absent, present, entryOf, without, largestIndex, tells, removeEntry, removeRow}
 use Rattle.plain_rows.specs.Rows.{rowsOf, entryRead}
 use Rattle.plain_rows.proofs.FedLaws.{feeds-nothing, feeds-without}
@@ -65,7 +66,7 @@ returns-2 c =
     let told : removeRow (a .m) (a .k) (a .point) rows ≡ tells left (removed (largestIndex (a .m) (a .k) left)) = rw some in
     let shown : rowsOf (removal .last .0) (removal .last .1 .0) (removal .result) ≡ left = removal .ensures .shown in
     let largest : c .largest-index .result ≡ largestIndex (a .m) (a .k) left = rw (← shown) (c .largest-index .ensures) in
-    feeds-without (now (a .words)) (now (a .places)) (a .count) (start .pre) _ _ (removal .last .0) (removal .last .1 .0) (removal .result) (a .point) (removed (largestIndex (a .m) (a .k) left)) (removal .ensures) refl (ap removed largest) told
+    feeds-without (now (a .words)) (now (a .places)) (a .count) (start .pre) _ _ (removal .last .0) (removal .last .1 .0) (removal .result) (a .point) (removed (largestIndex (a .m) (a .k) left)) (removal .ensures) refl (ap (λ (i : ℕ). ended (removed i)) largest) told
 
 pub remove-row-spec : {M : Type 1} → statement M
 remove-row-spec =

@@ -2,7 +2,7 @@
 use mathlib.Core.Path.{ap}
 use borrow.Author.Needs.{needs}
 use lib.ListN.{replicate}
-use Rattle.record.specs.Parts.{freshRecord, idleReader}
+use Rattle.record.specs.Parts.{freshRecord, idleReader, writerWith}
 use Rattle.record.specs.declared.Station.{Station}
 use Rattle.record.specs.declared.WriterWork.the-variants.{Idle as WriterWork·Idle}
 use Rattle.record.proofs.parts.fresh_record.Statement.{statement}
@@ -22,7 +22,7 @@ returns c =
       k = a .k;
       reach = 0;
       counts = replicate 64 0;
-      writer = WriterWork·Idle;
+      writer = writerWith WriterWork·Idle;
       readers = replicate 16 idleReader;
       stations = replicate 32 silent;
     })

@@ -8,10 +8,10 @@ use Rattle.record.specs.declared.Search.the-variants.{Unread}
 use Rattle.record.specs.declared.ReaderWork.the-variants.{LookingUp}
 use Rattle.record.specs.Parts.{withWork}
 use Rattle.record.proofs.Numbered.{mapped-length}
-use Rattle.answers.specs.Answers.{isUnderway, outcome, unlessRefused, refused, started}
+use Rattle.answers.specs.Answers.{Ending, ended, outcome, unlessRefused, refused, started}
 use Rattle.answers.proofs.AnswerLaws.{refused-outcome}
-use Rattle.reader_step.specs.Reader.{lookupAnswer}
-use Rattle.table.specs.Starts.{startReader, startLookup}
+use Rattle.reader_step.specs.Reader.{lookupEnding}
+use Rattle.reader_starts.specs.Starts.{startReader, startLookup}
 use Rattle.whole_operations.specs.Whole.{untilEnded, readerStep, wholeLookup}
 use Rattle.whole_operations.proofs.WholeLaws.{has-ended}
 use Rattle.whole_operations.proofs.WholeLookup.{looks-up, reach-fits}
@@ -34,11 +34,11 @@ whole-search-requires c κs =
     let sixteen = mapped-length (a .panel .readers) _ 16 (c .before .before .before .before .good .0 .1 .1 .1 .1 .1 .1 .1 .0 .1 .0 .1) in
     reach-fits (a .panel) (now (a .slots)) (a .reader) (a .point) sixteen e
 
-lookup-answer-requires : tie.Need-lookup-answer-requires
-lookup-answer-requires c κs = search needs
+lookup-ending-requires : tie.Need-lookup-ending-requires
+lookup-ending-requires c κs = search needs
 
 returns : tie.Need-returns
-unfolding wholeLookup startLookup startReader isUnderway
+unfolding wholeLookup startLookup startReader
 returns c =
     let a = c .before .before .before .before .before .args in
     let s = now (a .slots) in
@@ -56,7 +56,7 @@ returns-2 c =
     let s = now (a .slots) in
     let e = sym (c .before .before .before .before .judge-lookup .ensures) ∙ ap paperJudged (c .before .before .enum-told .given .1) in
     let sixteen = mapped-length (a .panel .readers) _ 16 (c .before .before .before .before .before .before .good .0 .1 .1 .1 .1 .1 .1 .1 .0 .1 .0 .1) in
-    ap (outcome (a .panel) s) (c .lookup-answer .ensures ∙ ap lookupAnswer (c .before .whole-search .ensures))
+    ap (λ (ending : Ending). outcome (a .panel) s (ended ending)) (c .lookup-ending .ensures ∙ ap lookupEnding (c .before .whole-search .ensures))
     ∙ looks-up (a .panel) s (a .reader) (a .point) sixteen e
 
 pub whole-lookup-spec : {M : Type 1} → statement M
@@ -67,6 +67,6 @@ whole-lookup-spec =
     enum-known-refusal
     enum-told
     whole-search-requires
-    lookup-answer-requires
+    lookup-ending-requires
     returns
     returns-2)

@@ -5,16 +5,16 @@ use mathlib.Core.Bool.{Bool, cond}
 use mathlib.Core.Logic.{⊎-elim}
 use mathlib.Core.Path.{_≡_, refl, _∙_, sym, ap, transport}
 use native.Mathlib.Omega.{arith}
-use borrow.Author.Needs.{needs}
 use lib.ListN.{length}
+use borrow.Author.Needs.{needs}
 use Rattle.record.specs.declared.Record.{Record}
 use Rattle.record.specs.Parts.{withReach, withCount, withWriter}
-use Rattle.answers.specs.Answers.{outcome, paperWriter}
-use Rattle.moves.specs.Moves.{WriterMove, updated, paperMoved}
+use Rattle.answers.specs.Answers.{stepAnswer, paperProgress, outcome}
+use Rattle.effects.specs.Effects.{WriterEffect, updated, paperEffect}
 use Rattle.writer.proofs.WriterLaws.{slots-length, AtWork, works}
 use Rattle.whole_operations.specs.Whole.{writerStep, leaves}
 use Rattle.whole_operations.specs.WholeFacts.{indexUncounted}
-use Rattle.whole_operations.proofs.WholeLaws.{fewer, OnTheWay, sets-out, arrives, moves-on}
+use Rattle.whole_operations.proofs.WholeLaws.{fewer, OnTheWay, sets-out, arrives, steps-on}
 use Rattle.whole_operations.proofs.WholeEnds.{stays-at-work}
 use Rattle.whole_operations.proofs.WorkBeside.{step-beside}
 use Rattle.whole_operations.proofs.Removals.{Kept, begins-kept, step-keeps}
@@ -22,13 +22,14 @@ use Rattle.whole_operations.proofs.removing.steps.Statement.{statement}
 use Rattle.whole_operations.proofs.removing.steps.Tie as tie
 
 abbrev Inv-loop : tie.InvT-loop
-Inv-loop slots₀ budget held₀ index₀ work₀ answer₀ left₀ slots held index work answer left =
+Inv-loop slots₀ budget held₀ index₀ work₀ progress₀ left₀ slots held index work progress left =
     (length slots ≡ length slots₀)
-    × OnTheWay writerStep AtWork (outcome (withWriter held₀ work₀) slots₀ (paperWriter answer₀)) budget left (outcome (withWriter held work) slots (paperWriter answer))
+    × OnTheWay writerStep AtWork (outcome (withWriter held₀ work₀) slots₀ (stepAnswer (paperProgress progress₀))) budget left
+    (outcome (withWriter held work) slots (stepAnswer (paperProgress progress)))
     × Kept held₀ held index work
 
 abbrev μ-loop : tie.MeasureT-loop
-μ-loop slots₀ budget held₀ index₀ work₀ answer₀ left₀ slots held index work answer left = left
+μ-loop slots₀ budget held₀ index₀ work₀ progress₀ left₀ slots held index work progress left = left
 
 goes-on-requires : tie.Need-goes-on-requires Inv-loop μ-loop
 goes-on-requires c κs = search needs
@@ -53,6 +54,9 @@ writer-access-requires c κs = search needs
 perform-requires : tie.Need-perform-requires Inv-loop μ-loop
 perform-requires c κs = search needs
 
+slot-stored-requires : tie.Need-slot-stored-requires Inv-loop μ-loop
+slot-stored-requires c κs = search needs
+
 writer-advance-requires : tie.Need-writer-advance-requires Inv-loop μ-loop
 writer-advance-requires c κs = search needs
 
@@ -66,7 +70,7 @@ index-uncounted-requires : tie.Need-index-uncounted-requires Inv-loop μ-loop
 index-uncounted-requires c κs = search needs
 
 sub-while-underway : tie.Need-sub-while-underway Inv-loop μ-loop
-sub-while-underway c = omega (arith, c .before .before .before .before .before .before .before .before .loop-test)
+sub-while-underway c = omega (arith, c .before .before .before .before .before .before .before .before .before .loop-test)
 
 goes-on-requires-2 : tie.Need-goes-on-requires-2 Inv-loop μ-loop
 goes-on-requires-2 c κs = search needs
@@ -75,15 +79,15 @@ while-underway-requires-2 : tie.Need-while-underway-requires-2 Inv-loop μ-loop
 while-underway-requires-2 c κs = search needs
 
 loop-less : tie.Need-loop-less Inv-loop μ-loop
-loop-less c = fewer (c .before .before .before .before .before .before .before .before .before .before .before .loop .left) _ (c .before .goes-on2 .result) (omega (arith, c .before .before .before .before .before .before .before .before .before .before .loop-test)) (c .while-underway2 .ensures)
+loop-less c = fewer (c .before .before .before .before .before .before .before .before .before .before .before .before .loop .left) _ (c .before .goes-on2 .result) (omega (arith, c .before .before .before .before .before .before .before .before .before .before .before .loop-test)) (c .while-underway2 .ensures)
 
 loop-again : tie.Need-loop-again Inv-loop μ-loop
 unfolding updated withWriter
 loop-again c =
-    let panel = c .before .before .before .before .before .before .before .before .before .before .before .before .before .before .before .args .panel in
-    let l = c .before .before .before .before .before .before .before .before .before .before .before .loop in
-    let more = c .before .before .before .before .before .before .before .before .before .before .loop-test in
-    let stored = c .before .before .before .before .before .before .before .perform .ensures in
+    let panel = c .before .before .before .before .before .before .before .before .before .before .before .before .before .before .before .before .args .panel in
+    let l = c .before .before .before .before .before .before .before .before .before .before .before .before .loop in
+    let more = c .before .before .before .before .before .before .before .before .before .before .before .loop-test in
+    let performed = c .before .before .before .before .before .before .before .before .perform .ensures in
     let advances = c .before .before .before .before .writer-advance in
     let goes = l .inv .1 .goes (omega arith) in
     let updates =
@@ -92,16 +96,16 @@ loop-again c =
     (λ new. new .2 ∙ new .1 .ensures)
     (c .before .before .before .match .came) in
     let takes =
-    step-beside (l .held) (c .before .before .before .match .held) (l .slots) _ (l .work) (paperWriter (l .answer)) _ _ (paperMoved (advances .result)) (l .inv .1 .holds) goes
-    (c .before .before .before .before .before .before .before .before .writer-access .ensures) (stored .0) (stored .1) (advances .ensures) updates in
-    let kept = step-keeps panel (l .held) (l .index) (l .work) _ (l .inv .2) (works _ (l .inv .1 .holds) goes) in
-    let moves = advances .ensures in
-    let held = updates ∙ ap (λ (m : WriterMove). updated (l .held) (m .update)) moves in
-    let index = c .before .before .index-uncounted .ensures ∙ ap (λ (m : WriterMove). indexUncounted (l .index) (m .update)) moves in (
-      ap length (stored .1) ∙ slots-length (l .slots) _ ∙ l .inv .0,
-      moves-on writerStep AtWork stays-at-work _ _ (l .left) _ (l .inv .1) (omega arith) _ takes _
+    step-beside (l .held) (c .before .before .before .match .held) (l .slots) _ (l .work) (stepAnswer (paperProgress (l .progress))) _ _ _ (paperEffect (advances .result)) (l .inv .1 .holds) goes
+    (c .before .before .before .before .before .before .before .before .before .before .writer-access .ensures) (c .before .before .before .before .before .slot-stored .ensures) (performed .0) (performed .1) (advances .ensures) updates in
+    let kept = step-keeps panel (l .held) (l .index) (l .work) _ _ (l .inv .2) (works _ (l .inv .1 .holds) goes) in
+    let effect = advances .ensures in
+    let held = updates ∙ ap (λ (m : WriterEffect). updated (l .held) (m .update)) effect in
+    let index = c .before .before .index-uncounted .ensures ∙ ap (λ (m : WriterEffect). indexUncounted (l .index) (m .update)) effect in (
+      ap length (performed .1) ∙ slots-length (l .slots) _ ∙ l .inv .0,
+      steps-on writerStep AtWork stays-at-work _ _ (l .left) _ (l .inv .1) (omega arith) _ takes _
           (c .while-underway2 .ensures ∙ ap (λ (b : Bool). cond b (l .left - 1) 0) (c .before .goes-on2 .ensures)),
-      transport (λ j. Kept panel (sym held j) (sym index j) (sym moves j .work)) kept,
+      transport (λ j. Kept panel (sym held j) (sym index j) (sym effect j .work)) kept,
     )
 
 count-of-requires : tie.Need-count-of-requires Inv-loop μ-loop
@@ -116,7 +120,7 @@ returns c =
     let a = c .before .before .before .before .before .before .args in
     let l = c .before .before .loop in
     let held = l .inv .2 .same ∙ ap (λ (count : ℕ). withCount (withReach (a .panel) (l .held .reach)) (l .index) count) (sym (c .count-of .ensures)) in (
-      ap (λ (r : Record). outcome (withWriter r (l .work)) (l .slots) (paperWriter (l .answer))) (sym held)
+      ap (λ (r : Record). outcome (withWriter r (l .work)) (l .slots) (stepAnswer (paperProgress (l .progress)))) (sym held)
           ∙ arrives writerStep AtWork stays-at-work _ _ (l .left) _ (l .inv .1) (omega (arith, c .before .loop-test)),
       l .inv .1 .holds .busy,
     )
@@ -132,6 +136,7 @@ steps-spec =
     loop-holds
     writer-access-requires
     perform-requires
+    slot-stored-requires
     writer-advance-requires
     enum-told
     with-update-requires

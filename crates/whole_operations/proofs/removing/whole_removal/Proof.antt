@@ -2,16 +2,16 @@
 use Prim.Native.Nat.{_+_}
 use mathlib.Core.Path.{refl, _∙_, sym, ap}
 use native.Mathlib.Omega.{arith}
-use borrow.Author.Needs.{needs}
 use denote.Ref.{now}
+use borrow.Author.Needs.{needs}
 use Rattle.refusal.specs.Refusals.{paperJudged}
 use Rattle.record.specs.declared.Search.the-variants.{Unread}
 use Rattle.record.specs.declared.Removal.{Removal}
 use Rattle.record.specs.declared.RemovalStage.the-variants.{Searching}
 use Rattle.record.specs.declared.WriterWork.the-variants.{Removing}
-use Rattle.record.specs.Parts.{withReach, withCount, withWriter}
-use Rattle.answers.specs.Answers.{outcome, paperWriter}
-use Rattle.moves.specs.Moves.{WriterMove, isIdle}
+use Rattle.record.specs.Parts.{withReach, withCounts, withCount, withWriter}
+use Rattle.answers.specs.Answers.{outcome}
+use Rattle.effects.specs.Effects.{WriterEffect}
 use Rattle.removal.specs.Removal.{removalAnswered}
 use Rattle.writer.specs.Starts.{startRemoval}
 use Rattle.writer.proofs.WriterLaws.{removal-begins}
@@ -19,7 +19,7 @@ use Rattle.whole_operations.specs.Whole.{wholeRemoval, leaves}
 use Rattle.whole_operations.specs.WholeFacts.{removes, pointOfWork, searchingBy, answeredBy}
 use Rattle.whole_operations.proofs.WholeEnds.{whole-removal-ends}
 use Rattle.whole_operations.proofs.WholeWriting.{reach-fits, run-refused}
-use Rattle.whole_operations.proofs.WriterSearch.{answered-removes, move-at-work, whole-ended}
+use Rattle.whole_operations.proofs.WriterSearch.{answered-removes, effect-at-work, whole-ended, has-answer}
 use Rattle.whole_operations.proofs.removing.whole_removal.Statement.{statement}
 use Rattle.whole_operations.proofs.removing.whole_removal.Tie as tie
 
@@ -51,15 +51,26 @@ removal-answered-requires : tie.Need-removal-answered-requires
 removal-answered-requires c κs = search needs
 
 steps-requires : tie.Need-steps-requires
-unfolding wholeRemoval startRemoval isIdle searchingBy pointOfWork answeredBy withWriter
+unfolding wholeRemoval startRemoval searchingBy pointOfWork answeredBy withWriter
 steps-requires c κs =
     let a = c .before .before .before .before .before .before .before .before .before .args in
     let s = now (a .slots) in
     let removal : Removal = record { point = a .point; stage = Searching Unread } in
     let e = sym (c .before .before .before .before .before .before .judge-start .ensures) ∙ ap paperJudged (c .before .before .before .before .enum-told .given .1) in
-    let moves = c .removal-answered .ensures ∙ ap (removalAnswered removal) (c .before .before .whole-search .ensures) in
-    let held = move-at-work (a .panel) s (a .point) (Removing removal) (a .panel .k + 3) e (omega arith) refl (λ answer. answered-removes removal answer .0) refl refl (removal-begins (a .panel) s (a .point)) (whole-removal-ends (a .panel) s (a .point)) _ moves in
-    (held .fits, held .busy, ap (λ (m : WriterMove). removes (m .work)) moves ∙ answered-removes removal _ .1)
+    let effect = c .removal-answered .ensures ∙ ap (removalAnswered removal) (c .before .before .whole-search .ensures) in
+    let held = effect-at-work (a .panel) s (a .point) (Removing removal) (a .panel .k + 3) e (omega arith) refl (λ answer. answered-removes removal answer .0) refl refl (removal-begins (a .panel) s (a .point)) (whole-removal-ends (a .panel) s (a .point)) _ effect in
+    (held .fits, held .busy, ap (λ (m : WriterEffect). removes (m .work)) effect ∙ answered-removes removal _ .1)
+
+answer-of-requires : tie.Need-answer-of-requires
+unfolding wholeRemoval startRemoval leaves withReach withCount withCounts searchingBy pointOfWork answeredBy
+answer-of-requires c κs =
+    let a = c .before .before .before .before .before .before .before .before .before .before .before .before .before .args in
+    let s = now (a .slots) in
+    let removal : Removal = record { point = a .point; stage = Searching Unread } in
+    let e = sym (c .before .before .before .before .before .before .before .before .before .before .judge-start .ensures) ∙ ap paperJudged (c .before .before .before .before .before .before .before .before .enum-told .given .1) in
+    let effect = c .before .before .before .before .removal-answered .ensures ∙ ap (removalAnswered removal) (c .before .before .before .before .before .before .whole-search .ensures) in
+    let ran = c .before .before .before .steps .ensures in
+    has-answer (a .panel) s (a .point) (Removing removal) (a .panel .k + 3) e (omega arith) refl (λ answer. answered-removes removal answer .0) refl refl (removal-begins (a .panel) s (a .point)) (whole-removal-ends (a .panel) s (a .point)) _ effect _ _ _ _ refl (ran .1) (ran .0)
 
 returns : tie.Need-returns
 unfolding wholeRemoval startRemoval
@@ -67,23 +78,23 @@ returns c =
     let a = c .before .before .before .before .before .before .before .args in
     let s = now (a .slots) in
     let e = sym (c .before .before .before .before .judge-start .ensures) ∙ ap paperJudged (c .before .before .refusal .given .1) in
-    (λ j. outcome (c .unchanged .ensures .0 j) s (paperWriter (c .unchanged .ensures .1 j)))
+    (λ j. outcome (c .unchanged .ensures .0 j) s (c .unchanged .ensures .1 j))
     ∙ run-refused (a .panel) s (a .point) _ (a .panel .k + 3) (c .before .before .refusal .given .0 .0) e
 
 same-length : tie.Need-same-length
 same-length c = search needs
 
 returns-2 : tie.Need-returns-2
-unfolding wholeRemoval startRemoval leaves withReach withCount isIdle searchingBy pointOfWork answeredBy
+unfolding wholeRemoval startRemoval leaves withReach withCount withCounts searchingBy pointOfWork answeredBy
 returns-2 c =
-    let a = c .before .before .before .before .before .before .before .before .before .before .before .before .before .args in
+    let a = c .before .before .before .before .before .before .before .before .before .before .before .before .before .before .args in
     let s = now (a .slots) in
     let removal : Removal = record { point = a .point; stage = Searching Unread } in
-    let e = sym (c .before .before .before .before .before .before .before .before .before .before .judge-start .ensures) ∙ ap paperJudged (c .before .before .before .before .before .before .before .before .enum-told .given .1) in
-    let moves = c .before .before .before .before .removal-answered .ensures ∙ ap (removalAnswered removal) (c .before .before .before .before .before .before .whole-search .ensures) in
-    let ran = c .before .before .before .steps .ensures in
-    whole-ended (a .panel) s (a .point) (Removing removal) (a .panel .k + 3) e (omega arith) refl (λ answer. answered-removes removal answer .0) refl refl (removal-begins (a .panel) s (a .point)) (whole-removal-ends (a .panel) s (a .point))
-    _ moves _ _ _ _ refl (ran .1) (ran .0)
+    let e = sym (c .before .before .before .before .before .before .before .before .before .before .before .judge-start .ensures) ∙ ap paperJudged (c .before .before .before .before .before .before .before .before .before .enum-told .given .1) in
+    let effect = c .before .before .before .before .before .removal-answered .ensures ∙ ap (removalAnswered removal) (c .before .before .before .before .before .before .before .whole-search .ensures) in
+    let ran = c .before .before .before .before .steps .ensures in
+    ap (outcome (leaves (a .panel) (c .before .before .before .before .steps .result .changes)) _) (c .answer-of .ensures)
+    ∙ whole-ended (a .panel) s (a .point) (Removing removal) (a .panel .k + 3) e (omega arith) refl (λ answer. answered-removes removal answer .0) refl refl (removal-begins (a .panel) s (a .point)) (whole-removal-ends (a .panel) s (a .point)) _ effect _ _ _ _ refl (ran .1) (ran .0)
 
 pub whole-removal-spec : {M : Type 1} → statement M
 whole-removal-spec =
@@ -98,6 +109,7 @@ whole-removal-spec =
     whole-search-requires
     removal-answered-requires
     steps-requires
+    answer-of-requires
     returns
     same-length
     returns-2)

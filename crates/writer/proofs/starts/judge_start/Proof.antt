@@ -21,16 +21,16 @@ returns-2 : tie.Need-returns-2
 unfolding startRefusal refuseIf
 returns-2 c = rw (sym (c .before .before .before .is-in-range .ensures) ∙ not-false _ (c .before .before .if1 .left), sym (c .before .is-valid-point .ensures) ∙ not-true _ (c .if2 .taken))
 
-has-no-work-requires : tie.Need-has-no-work-requires
-has-no-work-requires c κs = search needs
+is-writer-idle-requires : tie.Need-is-writer-idle-requires
+is-writer-idle-requires c κs = search needs
 
 returns-3 : tie.Need-returns-3
 unfolding startRefusal refuseIf
-returns-3 c = rw (sym (c .before .before .before .before .before .is-in-range .ensures) ∙ not-false _ (c .before .before .before .before .if1 .left), sym (c .before .before .before .is-valid-point .ensures) ∙ not-false _ (c .before .before .if2 .left), sym (c .before .has-no-work .ensures) ∙ not-true _ (c .if3 .taken))
+returns-3 c = rw (sym (c .before .before .before .before .before .before .is-in-range .ensures) ∙ not-false _ (c .before .before .before .before .before .if1 .left), sym (c .before .before .before .before .is-valid-point .ensures) ∙ not-false _ (c .before .before .before .if2 .left), sym (c .before .is-writer-idle .ensures) ∙ not-true _ (c .if3 .taken))
 
 returns-4 : tie.Need-returns-4
 unfolding startRefusal refuseIf
-returns-4 c = rw (sym (c .before .before .before .before .before .is-in-range .ensures) ∙ not-false _ (c .before .before .before .before .if1 .left), sym (c .before .before .before .is-valid-point .ensures) ∙ not-false _ (c .before .before .if2 .left), sym (c .before .has-no-work .ensures) ∙ not-false _ (c .if3 .left))
+returns-4 c = rw (sym (c .before .before .before .before .before .before .is-in-range .ensures) ∙ not-false _ (c .before .before .before .before .before .if1 .left), sym (c .before .before .before .before .is-valid-point .ensures) ∙ not-false _ (c .before .before .before .if2 .left), sym (c .before .is-writer-idle .ensures) ∙ not-false _ (c .if3 .left))
 
 pub judge-start-spec : {M : Type 1} → statement M
 judge-start-spec =
@@ -40,6 +40,6 @@ judge-start-spec =
     returns
     is-valid-point-requires
     returns-2
-    has-no-work-requires
+    is-writer-idle-requires
     returns-3
     returns-4)

@@ -14,17 +14,17 @@ returns : tie.Need-returns
 unfolding stepRefusal refuseIf
 returns c = rw (sym (c .before .is-in-range .ensures) ∙ not-true _ (c .if1 .taken))
 
-has-no-work-requires : tie.Need-has-no-work-requires
-has-no-work-requires c κs = search needs
+is-writer-idle-requires : tie.Need-is-writer-idle-requires
+is-writer-idle-requires c κs = search needs
 
 returns-2 : tie.Need-returns-2
 unfolding stepRefusal refuseIf
-returns-2 c = rw (sym (c .before .before .before .is-in-range .ensures) ∙ not-false _ (c .before .before .if1 .left), sym (c .before .has-no-work .ensures) ∙ c .if2 .taken)
+returns-2 c = rw (sym (c .before .before .before .before .is-in-range .ensures) ∙ not-false _ (c .before .before .before .if1 .left), sym (c .before .is-writer-idle .ensures) ∙ c .if2 .taken)
 
 returns-3 : tie.Need-returns-3
 unfolding stepRefusal refuseIf
-returns-3 c = rw (sym (c .before .before .before .is-in-range .ensures) ∙ not-false _ (c .before .before .if1 .left), sym (c .before .has-no-work .ensures) ∙ c .if2 .left)
+returns-3 c = rw (sym (c .before .before .before .before .is-in-range .ensures) ∙ not-false _ (c .before .before .before .if1 .left), sym (c .before .is-writer-idle .ensures) ∙ c .if2 .left)
 
 pub judge-step-spec : {M : Type 1} → statement M
 judge-step-spec =
-    tie.close (tie.spec is-in-range-requires returns has-no-work-requires returns-2 returns-3)
+    tie.close (tie.spec is-in-range-requires returns is-writer-idle-requires returns-2 returns-3)

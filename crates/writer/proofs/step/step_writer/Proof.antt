@@ -27,7 +27,7 @@ unfolding stepWriter
 returns c =
     let a = c .before .before .before .before .before .args in
     let s = now (a .slots) in
-    let done = writerRuns (a .panel) s (a .panel .writer) in
+    let done = writerRuns (a .panel) s (a .panel .writer .work) in
     let verdict = sym (ap paperJudged (c .before .refusal .given .1)) ∙ c .before .before .before .judge-step .ensures in
     sym (refused-outcome (a .panel) s done (c .before .refusal .given .0 .0)) ∙ ap (λ (n : ℕ). unlessRefused n (a .panel) s done) verdict
 
@@ -39,7 +39,7 @@ unfolding stepWriter
 returns-2 c =
     let a = c .before .before .before .before .before .before .before .before .args in
     let s = now (a .slots) in
-    let done = writerRuns (a .panel) s (a .panel .writer) in
+    let done = writerRuns (a .panel) s (a .panel .writer .work) in
     let verdict = sym (ap paperJudged (c .before .before .before .before .enum-told .given .1)) ∙ c .before .before .before .before .before .before .judge-step .ensures in
     c .before .before .run-step .ensures
     ∙ sym (allowed-outcome (a .panel) s done)

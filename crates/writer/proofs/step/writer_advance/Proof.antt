@@ -7,6 +7,9 @@ use Rattle.writer.proofs.step.writer_advance.Tie as tie
 enum-told : tie.Need-enum-told
 enum-told c = search needs
 
+underway-requires : tie.Need-underway-requires
+underway-requires c κs = search needs
+
 enum-known-work : tie.Need-enum-known-work
 enum-known-work c = search needs
 
@@ -27,7 +30,7 @@ removal-advance-requires c κs = search needs
 
 returns : tie.Need-returns
 unfolding writerAdvance
-returns c = rw (c .enum-told .given .1)
+returns c = rw (c .before .enum-told .given .1) (c .underway .ensures)
 
 returns-2 : tie.Need-returns-2
 unfolding writerAdvance
@@ -46,6 +49,7 @@ writer-advance-spec =
     tie.close
     (tie.spec
     enum-told
+    underway-requires
     enum-known-work
     put-advance-requires
     enum-known-work-2

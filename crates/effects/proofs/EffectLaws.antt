@@ -1,0 +1,183 @@
+-- Laws of what a step of the writer comes to: an update in range keeps a record in range and leaves the rest of it; and how many steps an operation has
+-- left, at most, by which the bounds 2k + 2, k + 2 and k + 3 are shown.
+use Prim.Native.Nat.{ℕ, _+_, _*_, _-_, _≤_, min}
+use mathlib.Core.Path.{_≡_, refl, sym}
+use mathlib.Core.Bool.{Bool, true, false, cond, not, false≢true}
+use native.Mathlib.Omega.{arith}
+use borrow.Author.Tests.{leb-true, ltb-true, ltb-false}
+use lib.Dec.{ltb, leb}
+use Rattle.conditions.specs.Conditions.{within}
+use Rattle.conditions.proofs.ConditionLaws.{within-high}
+use Rattle.record.specs.declared.Record.{Record}
+use Rattle.record.specs.declared.Search.{Search}
+use Rattle.record.specs.declared.Search.the-variants.{Unread, Probing}
+use Rattle.record.specs.declared.PutStage.{PutStage}
+use Rattle.record.specs.declared.PutStage.the-variants.{Searching as PutStage·Searching, Scanning, Found as PutStage·Found, Chosen}
+use Rattle.record.specs.declared.ChangeStage.{ChangeStage}
+use Rattle.record.specs.declared.ChangeStage.the-variants.{Searching as ChangeStage·Searching, Found as ChangeStage·Found}
+use Rattle.record.specs.declared.RemovalStage.{RemovalStage}
+use Rattle.record.specs.declared.RemovalStage.the-variants.{Searching as RemovalStage·Searching, Found as RemovalStage·Found, Lowering}
+use Rattle.record.specs.declared.WriterWork.{WriterWork}
+use Rattle.record.specs.declared.WriterWork.the-variants.{Idle, Putting, Changing, Removing}
+use Rattle.record.specs.Parts.{withReach, withCount, withStation, countOf, withCounts, withStations}
+use Rattle.record_ranges.specs.Ranges.{stationInRange, inRange}
+use Rattle.work_ranges.specs.WorkRanges.{writerInRange}
+use Rattle.record_ranges.proofs.Laws.{with-reach-in-range, with-count-in-range, with-station-in-range, count-in-range}
+use Rattle.answers.specs.Answers.{stepAnswer, isUnderway}
+use Rattle.search.proofs.SearchLaws.{searchLeft, slotRead}
+use Rattle.effects.specs.declared.memory.WriterAccess.{WriterAccess}
+use Rattle.effects.specs.declared.memory.WriterAccess.the-variants.{Read, StoreReach, StoreSlot}
+use Rattle.effects.specs.declared.update.Update.{Update}
+use Rattle.effects.specs.declared.update.Update.the-variants.{Nothing, Reach, Counted, Uncounted, Answered}
+use Rattle.effects.specs.Counts.{counted, uncounted}
+use Rattle.effects.specs.Effects.{WriterEffect, updated}
+use Rattle.record.specs.Idle.{isWriterIdle}
+
+-- what replaces a part of the record is in range
+unfoldable pub updateInRange : ℕ → Update → Bool
+updateInRange k Nothing = true
+updateInRange k (Reach reach) = leb reach k
+updateInRange k (Counted index) = true
+updateInRange k (Uncounted index) = within 1 index k
+updateInRange k (Answered command) = stationInRange (command .last)
+
+pub updated-in-range : (lent : ℕ) (panel : Record) (update : Update) → inRange lent panel ≡ true → updateInRange (panel .k) update ≡ true → inRange lent (updated panel update) ≡ true
+unfolding updated updateInRange counted uncounted
+updated-in-range lent panel Nothing h e = h
+updated-in-range lent panel (Reach reach) h e = with-reach-in-range lent panel h reach (leb-true reach (panel .k) e)
+updated-in-range lent panel (Counted index) h e =
+    with-count-in-range lent panel h index (min (countOf panel index + 1) (panel .m)) (omega arith)
+updated-in-range lent panel (Uncounted index) h e =
+    with-count-in-range lent panel h index (countOf panel index - 1)
+    (omega (arith, count-in-range lent panel h index (within-high 1 index (panel .k) e)))
+updated-in-range lent panel (Answered command) h e = with-station-in-range lent panel h (command .station) (command .last) e
+
+-- the reach after an update
+unfoldable pub reachAfter : ℕ → Update → ℕ
+reachAfter reach Nothing = reach
+reachAfter reach (Reach new) = new
+reachAfter reach (Counted index) = reach
+reachAfter reach (Uncounted index) = reach
+reachAfter reach (Answered command) = reach
+
+-- the reach after an access
+unfoldable pub reachStored : ℕ → WriterAccess → ℕ
+reachStored reach (Read access) = reach
+reachStored reach (StoreReach new) = new
+reachStored reach (StoreSlot store) = reach
+
+-- the slot that an access names; 0 where it names none
+unfoldable pub slotNamed : WriterAccess → ℕ
+slotNamed (Read access) = slotRead access
+slotNamed (StoreReach new) = 0
+slotNamed (StoreSlot store) = store .slot
+
+-- what an update leaves alone, and the reach after it
+pub record Updated (panel : Record) (update : Update) : Type 0 where
+  pub m-stays : updated panel update .m ≡ panel .m
+  pub k-stays : updated panel update .k ≡ panel .k
+  pub readers-stay : updated panel update .readers ≡ panel .readers
+  pub reach-after : updated panel update .reach ≡ reachAfter (panel .reach) update
+
+pub update-leaves : (panel : Record) (update : Update) → Updated panel update
+unfolding updated reachAfter counted uncounted withReach withCount withCounts withStation withStations
+update-leaves panel Nothing = record { m-stays = refl; k-stays = refl; readers-stay = refl; reach-after = refl }
+update-leaves panel (Reach reach) = record { m-stays = refl; k-stays = refl; readers-stay = refl; reach-after = refl }
+update-leaves panel (Counted index) = record { m-stays = refl; k-stays = refl; readers-stay = refl; reach-after = refl }
+update-leaves panel (Uncounted index) = record { m-stays = refl; k-stays = refl; readers-stay = refl; reach-after = refl }
+update-leaves panel (Answered command) = record { m-stays = refl; k-stays = refl; readers-stay = refl; reach-after = refl }
+
+-- a step more where an index exceeds the reach: the one that stores the reach
+unfoldable pub raising : ℕ → ℕ → ℕ
+raising reach index = cond (ltb reach index) 1 0
+
+pub raising-low : (reach index : ℕ) → index ≤ reach → raising reach index ≡ 0
+unfolding raising
+raising-low reach index h = go (ltb reach index) refl
+  where
+    go : (b : Bool) → ltb reach index ≡ b → cond {A = ℕ} b 1 0 ≡ 0
+    go true e = absurd (omega (arith, ltb-true reach index e))
+    go false e = refl
+
+pub raising-high : (reach index : ℕ) → reach ≤ index → reach + raising reach index ≤ index
+unfolding raising
+raising-high reach index h = go (ltb reach index) refl
+  where
+    go : (b : Bool) → ltb reach index ≡ b → reach + cond b 1 0 ≤ index
+    go true e = omega (arith, ltb-true reach index e)
+    go false e = omega arith
+
+pub raising-grows : (reach index k : ℕ) → index ≤ k → raising reach index ≤ raising reach k
+unfolding raising
+raising-grows reach index k h = go (ltb reach index) (ltb reach k) refl refl
+  where
+    go : (a b : Bool) → ltb reach index ≡ a → ltb reach k ≡ b → cond a 1 0 ≤ cond b 1 0
+    go true true e f = omega arith
+    go true false e f = absurd (omega (arith, ltb-true reach index e, ltb-false reach k f))
+    go false true e f = omega arith
+    go false false e f = omega arith
+
+-- the steps that are left of a put's first search and what follows it, at most
+unfoldable pub putSearchLeft : ℕ → ℕ → Search → ℕ
+putSearchLeft k reach Unread = 2 * k + 2
+putSearchLeft k reach (Probing probe) = probe .reach - probe .next + 1 + (k + 1 + raising reach k)
+
+-- the steps that are left of a put, at most
+unfoldable pub putLeft : ℕ → ℕ → PutStage → ℕ
+putLeft k reach (PutStage·Searching search) = putSearchLeft k reach search
+putLeft k reach (Scanning next) = k - next + 1 + (1 + raising reach k)
+putLeft k reach (PutStage·Found place) = 1
+putLeft k reach (Chosen index) = 1 + raising reach index
+
+-- the steps that are left of a change, at most
+unfoldable pub changeLeft : ℕ → ChangeStage → ℕ
+changeLeft k (ChangeStage·Searching search) = searchLeft k search + 1
+changeLeft k (ChangeStage·Found place) = 1
+
+-- the steps that are left of a removal, at most
+unfoldable pub removalLeft : ℕ → RemovalStage → ℕ
+removalLeft k (RemovalStage·Searching search) = searchLeft k search + 2
+removalLeft k (RemovalStage·Found place) = 2
+removalLeft k Lowering = 1
+
+-- the steps that are left of the writer's work, at most, with this k and reach
+unfoldable pub writerLeft : ℕ → ℕ → WriterWork → ℕ
+writerLeft k reach Idle = 0
+writerLeft k reach (Putting put) = putLeft k reach (put .stage)
+writerLeft k reach (Changing change) = changeLeft k (change .stage)
+writerLeft k reach (Removing removal) = removalLeft k (removal .stage)
+
+-- what a step comes to: work and update in range, and a step less to go
+pub record OneEffect (k reach left : ℕ) (effect : WriterEffect) : Type 0 where
+  pub work-fits : writerInRange k (effect .work) ≡ true
+  pub update-fits : updateInRange k (effect .update) ≡ true
+  -- "A step that ends an operation .. leaves that party idle", and only such a step does
+  pub ended : isUnderway (stepAnswer (effect .progress)) ≡ not (isWriterIdle (effect .work))
+  pub less : writerLeft k (reachAfter reach (effect .update)) (effect .work) + 1 ≤ left
+
+-- work that goes on has a step left
+put-some : (k reach : ℕ) (stage : PutStage) → 1 ≤ putLeft k reach stage
+unfolding putLeft putSearchLeft
+put-some k reach (PutStage·Searching Unread) = omega arith
+put-some k reach (PutStage·Searching (Probing probe)) = omega arith
+put-some k reach (Scanning index) = omega arith
+put-some k reach (PutStage·Found place) = omega arith
+put-some k reach (Chosen index) = omega arith
+
+change-some : (k : ℕ) (stage : ChangeStage) → 1 ≤ changeLeft k stage
+unfolding changeLeft
+change-some k (ChangeStage·Searching search) = omega arith
+change-some k (ChangeStage·Found place) = omega arith
+
+removal-some : (k : ℕ) (stage : RemovalStage) → 1 ≤ removalLeft k stage
+unfolding removalLeft
+removal-some k (RemovalStage·Searching search) = omega arith
+removal-some k (RemovalStage·Found place) = omega arith
+removal-some k Lowering = omega arith
+
+pub some-left : (k reach : ℕ) (work : WriterWork) → isWriterIdle work ≡ false → 1 ≤ writerLeft k reach work
+unfolding writerLeft
+some-left k reach Idle e = absurd (false≢true (sym e))
+some-left k reach (Putting put) e = put-some k reach (put .stage)
+some-left k reach (Changing change) e = change-some k (change .stage)
+some-left k reach (Removing removal) e = removal-some k (removal .stage)

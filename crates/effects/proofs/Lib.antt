@@ -1,0 +1,3 @@
+pub mod CountLaws
+pub mod EffectLaws
+pub mod StepAgreement

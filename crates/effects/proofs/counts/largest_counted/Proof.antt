@@ -1,0 +1,58 @@
+-- `effects::counts::largest_counted` meets its contract: from above, the first index that is counted.
+use mathlib.Core.Path.{_≡_, refl, _∙_, sym, ap}
+use native.Mathlib.Omega.{arith}
+use borrow.Author.Needs.{needs}
+use Rattle.effects.specs.Counts.{largestUpTo, largestCounted}
+use Rattle.effects.proofs.CountLaws.{largest-here, largest-below}
+use Rattle.effects.proofs.counts.largest_counted.Statement.{statement}
+use Rattle.effects.proofs.counts.largest_counted.Tie as tie
+
+abbrev Inv-loop : tie.InvT-loop
+Inv-loop panel index₀ index = largestUpTo panel index ≡ largestCounted panel
+
+abbrev μ-loop : tie.MeasureT-loop
+μ-loop panel index₀ index = index
+
+loop-holds : tie.Need-loop-holds Inv-loop μ-loop
+unfolding largestCounted
+loop-holds c = refl
+
+count-of-requires : tie.Need-count-of-requires Inv-loop μ-loop
+count-of-requires c κs = search needs
+
+returns : tie.Need-returns Inv-loop μ-loop
+returns c =
+    let l = c .before .before .before .loop in
+    sym (largest-here (c .before .before .before .before .args .panel) (l .index) (omega (arith, c .before .before .loop-test)) (λ e. c .if1 .taken (c .before .count-of .ensures ∙ e))) ∙ l .inv
+
+sub-index : tie.Need-sub-index Inv-loop μ-loop
+sub-index c = search needs
+
+loop-less : tie.Need-loop-less Inv-loop μ-loop
+loop-less c = omega arith
+
+loop-again : tie.Need-loop-again Inv-loop μ-loop
+loop-again c =
+    let l = c .before .before .before .loop in
+    sym (largest-below (c .before .before .before .before .args .panel) (l .index) (omega (arith, c .before .before .loop-test)) (sym (c .before .count-of .ensures) ∙ c .if1 .left)) ∙ l .inv
+
+returns-2 : tie.Need-returns-2 Inv-loop μ-loop
+unfolding largestUpTo
+returns-2 c =
+    let l = c .before .loop in
+    let none : l .index ≡ 0 = omega (arith, c .loop-test) in
+    sym (ap (largestUpTo (c .before .before .args .panel)) none) ∙ l .inv
+
+pub largest-counted-spec : {M : Type 1} → statement M
+largest-counted-spec =
+    tie.close
+    (tie.spec
+    Inv-loop
+    μ-loop
+    loop-holds
+    count-of-requires
+    returns
+    sub-index
+    loop-less
+    loop-again
+    returns-2)

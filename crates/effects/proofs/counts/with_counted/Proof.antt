@@ -1,0 +1,22 @@
+-- `effects::counts::with_counted` meets its contract by those of its parts.
+use mathlib.Core.Path.{_∙_, ap}
+use borrow.Author.Needs.{needs}
+use Rattle.record.specs.Parts.{withCount}
+use Rattle.effects.specs.Counts.{counted}
+use Rattle.effects.proofs.counts.with_counted.Statement.{statement}
+use Rattle.effects.proofs.counts.with_counted.Tie as tie
+
+one-more-requires : tie.Need-one-more-requires
+one-more-requires c κs = search needs
+
+with-count-requires : tie.Need-with-count-requires
+with-count-requires c κs = search needs
+
+returns : tie.Need-returns
+unfolding counted
+returns c =
+    let a = c .before .before .args in
+    c .with-count .ensures ∙ ap (withCount (a .panel) (a .index)) (c .before .one-more .ensures)
+
+pub with-counted-spec : {M : Type 1} → statement M
+with-counted-spec = tie.close (tie.spec one-more-requires with-count-requires returns)

@@ -1,0 +1,36 @@
+-- What a step of the writer comes to besides its access: the work after it, what changes in the record besides, and whether the operation has ended.
+use Rattle.record.specs.declared.Record.{Record}
+use Rattle.record.specs.declared.WriterWork.{WriterWork}
+use Rattle.record.specs.declared.WriterWork.the-variants.{Idle}
+use Rattle.record.specs.Parts.{withReach, withStation}
+use Rattle.answers.specs.Answers.{Ending, Progress, continues, finishes, paperProgress}
+use Rattle.effects.specs.declared.update.Effect.{Effect}
+use Rattle.effects.specs.declared.update.Update.{Update}
+use Rattle.effects.specs.declared.update.Update.the-variants.{Nothing, Reach, Counted, Uncounted, Answered}
+use Rattle.effects.specs.Counts.{counted, uncounted}
+
+-- the three
+pub record WriterEffect : Type 0 where
+  pub work : WriterWork
+  pub update : Update
+  pub progress : Progress
+
+-- the same in the code's enum
+abbrev pub paperEffect : Effect → WriterEffect
+paperEffect effect = record { work = effect .work; update = effect .update; progress = paperProgress (effect .progress) }
+
+-- "Any other step says “underway”"
+unfoldable pub goesOn : WriterWork → WriterEffect
+goesOn work = record { work = work; update = Nothing; progress = continues }
+
+-- "A step that ends an operation hands back its answer and leaves that party idle"
+unfoldable pub ends : Update → Ending → WriterEffect
+ends update ending = record { work = Idle; update = update; progress = finishes ending }
+
+-- the record with what the step changes in it besides the writer's work
+unfoldable pub updated : Record → Update → Record
+updated panel Nothing = panel
+updated panel (Reach reach) = withReach panel reach
+updated panel (Counted index) = counted panel index
+updated panel (Uncounted index) = uncounted panel index
+updated panel (Answered command) = withStation panel (command .station) (command .last)

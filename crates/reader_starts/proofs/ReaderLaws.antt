@@ -1,0 +1,207 @@
+-- Laws of a reader's calls, for whoever reasons about orders of calls: a start or a step of one reader leaves everything else as it was, and keeps a record
+-- in range; a lookup takes at most k + 1 steps and a walk exactly m, whatever the others do in between; a step reads one of the slots lent.
+use Prim.Native.Nat.{ℕ, _+_, _-_, _≤_, _<_}
+use mathlib.Core.Path.{_≡_, refl, ap, _∙_}
+use mathlib.Core.Bool.{Bool, true, false, cond, not}
+use mathlib.Core.List.{List, [], _∷_}
+use native.Mathlib.Omega.{arith}
+use borrow.Author.Tests.{ltb-true, lt-ltb, not-false}
+use lib.Dec.{ltb}
+use lib.ListN.{length}
+use Rattle.conditions.proofs.ConditionLaws.{both-left, both-right, both-true}
+use Rattle.refusal.proofs.Laws.{not-refused}
+use Rattle.record.specs.declared.Record.{Record}
+use Rattle.record.specs.declared.Search.{Search}
+use Rattle.record.specs.declared.Search.the-variants.{Unread, Probing}
+use Rattle.record.specs.declared.Walk.{Walk}
+use Rattle.record.specs.declared.ReaderWork.{ReaderWork}
+use Rattle.record.specs.declared.ReaderWork.the-variants.{Idle, LookingUp, Walking}
+use Rattle.record.specs.Parts.{workOf, withWork, withReaders}
+use Rattle.record.proofs.WorkLaws.{others-stay}
+use Rattle.slot_words.specs.Points.{validPoint}
+use Rattle.work_ranges.specs.WorkRanges.{searchInRange, lookupInRange, workInRange}
+use Rattle.record_ranges.specs.Ranges.{inRange}
+use Rattle.record_ranges.proofs.Laws.{fields, sizes-in-range, work-in-range, with-work-in-range}
+use Rattle.search.specs.declared.access.ReadAccess.the-variants.{Slot}
+use Rattle.search.specs.declared.Searched.{Searched}
+use Rattle.search.specs.declared.Searched.the-variants.{Going, Answered}
+use Rattle.answers.specs.Answers.{Answer, started, walked, walkedLast, Outcome, outcome}
+use Rattle.reader_step.specs.Reader.{readerAccess, ReaderEffect, lookupEffect, lookupAdvance, walkAdvance, readerAdvance, afterStep, readerRuns, stepRefusal, stepReader}
+use Rattle.reader_starts.specs.Starts.{lookupRefusal, startReader, startLookup, startWalk}
+use Rattle.reader_starts.specs.ReaderFacts.{OnlyWorkOf, Met, workAfter, ReachWithin, at-end, at-step}
+use Rattle.answers.proofs.AnswerLaws.{unless}
+use Rattle.search.proofs.SearchLaws.{searchLeft, searchedLeft, searchedInRange, OneStep, search-step, slotRead, search-inside}
+
+module _ (reader : ℕ) (panel : Record) (slots : List ℕ) where
+  untouched : (answer : Answer) → OnlyWorkOf reader panel slots (outcome panel slots answer)
+  untouched answer =
+      record {
+        slots-stay = refl;
+        m-stays = refl;
+        k-stays = refl;
+        reach-stays = refl;
+        counts-stay = refl;
+        writer-stays = refl;
+        stations-stay = refl;
+        others-stay = λ other h. refl;
+      }
+
+  replaced : (work : ReaderWork) (answer : Answer) → OnlyWorkOf reader panel slots (outcome (withWork panel reader work) slots answer)
+  unfolding withWork withReaders
+  replaced work answer =
+      record {
+        slots-stay = refl;
+        m-stays = refl;
+        k-stays = refl;
+        reach-stays = refl;
+        counts-stay = refl;
+        writer-stays = refl;
+        stations-stay = refl;
+        others-stay = λ other h. others-stay panel reader other work h;
+      }
+
+  pub step-leaves : OnlyWorkOf reader panel slots (stepReader panel slots reader)
+  unfolding stepReader readerRuns afterStep
+  step-leaves = unless (OnlyWorkOf reader panel slots) (stepRefusal (length slots) panel reader) panel slots _ untouched (λ e. replaced _ _)
+
+  start-leaves : (n : ℕ) (work : ReaderWork) → OnlyWorkOf reader panel slots (startReader n panel slots reader work)
+  unfolding startReader
+  start-leaves n work = unless (OnlyWorkOf reader panel slots) n panel slots _ untouched (λ e. replaced work started)
+
+  pub lookup-leaves : (point : ℕ) → OnlyWorkOf reader panel slots (startLookup panel slots reader point)
+  unfolding startLookup
+  lookup-leaves point = start-leaves _ _
+
+  pub walk-leaves : OnlyWorkOf reader panel slots (startWalk panel slots reader)
+  unfolding startWalk
+  walk-leaves = start-leaves _ _
+
+-- the steps that are left of a reader's work, at most; of a walk exactly
+unfoldable pub stepsLeft : ℕ → ℕ → ReaderWork → ℕ
+stepsLeft m k Idle = 0
+stepsLeft m k (LookingUp lookup) = searchLeft k (lookup .search)
+stepsLeft m k (Walking walk) = m - walk .next
+
+-- after a step: in range, and a step less to go
+pub record OneLess (m k left : ℕ) (work : ReaderWork) : Type 0 where
+  pub in-range : workInRange m k work ≡ true
+  pub less : stepsLeft m k work ≤ left - 1
+
+lookup-effect : (m k point left : ℕ) (after : Searched) → validPoint point ≡ true → OneStep k left after → OneLess m k left (lookupEffect point after .work)
+unfolding lookupEffect workInRange lookupInRange searchedInRange searchedLeft stepsLeft
+lookup-effect m k point left (Going search) h s = record { in-range = both-true (validPoint point) (searchInRange k search) h (s .fits); less = omega (arith, s .less) }
+lookup-effect m k point left (Answered answer) h s = record { in-range = refl; less = omega arith }
+
+walk-effect : (m k : ℕ) (walk : Walk) (word : ℕ) → OneLess m k (m - walk .next) (walkAdvance m walk word .work)
+unfolding walkAdvance workInRange stepsLeft
+walk-effect m k walk word = go (ltb (walk .next + 1) m) refl
+  where
+    go : (b : Bool) → ltb (walk .next + 1) m ≡ b → OneLess m k (m - walk .next) (cond {A = ReaderEffect} b (record { work = Walking (record { next = walk .next + 1 }); answer = walked word }) (record { work = Idle; answer = walkedLast word }) .work)
+    go true e = record { in-range = e; less = omega arith }
+    go false e = record { in-range = refl; less = omega arith }
+
+pub advances : (m k reach : ℕ) (work : ReaderWork) (word : ℕ) → reach ≤ k → workInRange m k work ≡ true → OneLess m k (stepsLeft m k work) (readerAdvance m reach work word .work)
+unfolding readerAdvance lookupAdvance workInRange lookupInRange stepsLeft
+advances m k reach Idle word h e = record { in-range = refl; less = omega arith }
+advances m k reach (LookingUp lookup) word h e =
+    let valid = both-left (validPoint (lookup .point)) (searchInRange k (lookup .search)) e in
+    let probed = both-right (validPoint (lookup .point)) (searchInRange k (lookup .search)) e in
+    lookup-effect m k (lookup .point) _ _ valid (search-step k reach (lookup .point) (lookup .search) word h probed)
+advances m k reach (Walking walk) word h e = walk-effect m k walk word
+
+module _ (panel : Record) (slots : List ℕ) (reader : ℕ) (fits : inRange (length slots) panel ≡ true) where
+  kept : Outcome → Type 0
+  kept after = inRange (length slots) (after .panel) ≡ true
+
+  pub step-in-range : inRange (length slots) (stepReader panel slots reader .panel) ≡ true
+  unfolding stepReader readerRuns afterStep kept
+  step-in-range =
+      unless kept (stepRefusal (length slots) panel reader) panel slots _ (λ answer. fits)
+      (λ e.
+      with-work-in-range (length slots) panel fits reader _
+      (advances (panel .m) (panel .k) (panel .reach) (workOf panel reader) _ (fields (length slots) panel fits .reach-fits)
+      (work-in-range (length slots) panel reader fits) .in-range))
+
+  start-in-range : (n : ℕ) (work : ReaderWork) → (n ≡ 0 → workInRange (panel .m) (panel .k) work ≡ true) → inRange (length slots) (startReader n panel slots reader work .panel) ≡ true
+  unfolding startReader kept
+  start-in-range n work h = unless kept n panel slots _ (λ answer. fits) (λ e. with-work-in-range (length slots) panel fits reader work (h e))
+
+  pub lookup-start-in-range : (point : ℕ) → inRange (length slots) (startLookup panel slots reader point .panel) ≡ true
+  unfolding startLookup lookupRefusal workInRange lookupInRange searchInRange
+  lookup-start-in-range point =
+      start-in-range _ _
+      (λ e.
+      let after-1 = not-refused (not (inRange (length slots) panel)) 1 _ (omega arith) e in
+      let after-3 = not-refused (ltb 15 reader) 3 _ (omega arith) (after-1 .1) in
+      let after-2 = not-refused (not (validPoint point)) 2 _ (omega arith) (after-3 .1) in
+      both-true (validPoint point) true (not-false (validPoint point) (after-2 .0)) refl)
+
+  pub walk-start-in-range : inRange (length slots) (startWalk panel slots reader .panel) ≡ true
+  unfolding startWalk workInRange
+  walk-start-in-range = start-in-range _ _ (λ e. lt-ltb 0 (panel .m) (omega (arith, sizes-in-range (length slots) panel fits .m-low)))
+
+pub none-left : (m k : ℕ) (work : ReaderWork) → workInRange m k work ≡ true → stepsLeft m k work ≤ 0 → work ≡ Idle
+unfolding workInRange stepsLeft searchLeft
+none-left m k Idle e h = refl
+none-left m k (LookingUp lookup) e h = absurd (go (lookup .search) h)
+  where
+    go : (search : Search) → searchLeft k search ≤ 0 → ⊥
+    go Unread h = omega arith
+    go (Probing probe) h = omega arith
+none-left m k (Walking walk) e h = absurd (omega (arith, ltb-true (walk .next) m e))
+
+-- work in range is done after as many steps as it has left
+pub work-ends : (m k : ℕ) (work : ReaderWork) (met : List Met) → workInRange m k work ≡ true → ReachWithin k met → stepsLeft m k work ≤ length met → workAfter m work met ≡ Idle
+unfolding workAfter
+work-ends m k work [] e at-end h = none-left m k work e h
+work-ends m k work (now ∷ rest) e (at-step r rs) h =
+    let after = advances m k (now .reach) work (now .word) r e in
+    work-ends m k (readerAdvance m (now .reach) work (now .word) .work) rest (after .in-range) rs (omega (arith, after .less))
+
+-- "read the reach r; then positions 1 to r": at most k + 1 steps
+pub lookup-ends : (m k point : ℕ) (met : List Met) → validPoint point ≡ true → ReachWithin k met → length met ≡ k + 1 → workAfter m (LookingUp (record { point = point; search = Unread })) met ≡ Idle
+unfolding workInRange lookupInRange searchInRange stepsLeft searchLeft
+lookup-ends m k point met e r h = work-ends m k _ met (both-true (validPoint point) true e refl) r (omega arith)
+
+walk-goes-on : (m i : ℕ) (met : List Met) → i + length met < m → workAfter m (Walking (record { next = i })) met ≡ Walking (record { next = i + length met })
+unfolding workAfter readerAdvance walkAdvance
+walk-goes-on m i [] h = ap (λ (n : ℕ). Walking (record { next = n })) (omega arith)
+walk-goes-on m i (now ∷ rest) h =
+    rw (lt-ltb (i + 1) m (omega arith))
+    (walk-goes-on m (i + 1) rest (omega arith) ∙ ap (λ (n : ℕ). Walking (record { next = n })) (omega arith))
+
+idle-stays : (m : ℕ) (met : List Met) → workAfter m Idle met ≡ Idle
+unfolding workAfter readerAdvance
+idle-stays m [] = refl
+idle-stays m (now ∷ rest) = idle-stays m rest
+
+walk-ends : (m i : ℕ) (met : List Met) → 1 ≤ length met → i + length met ≡ m → workAfter m (Walking (record { next = i })) met ≡ Idle
+unfolding workAfter readerAdvance walkAdvance
+walk-ends m i [] h e = absurd (omega arith)
+walk-ends m i (now ∷ rest) h e = go (ltb (i + 1) m) refl (walk-ends m (i + 1) rest)
+  where
+    go : (b : Bool) → ltb (i + 1) m ≡ b → (1 ≤ length rest → i + 1 + length rest ≡ m → workAfter m (Walking (record { next = i + 1 })) rest ≡ Idle) → workAfter m (cond {A = ReaderEffect} b (record { work = Walking (record { next = i + 1 }); answer = walked (now .word) }) (record { work = Idle; answer = walkedLast (now .word) }) .work) rest ≡ Idle
+    go true t more = let below = ltb-true (i + 1) m t in more (omega arith) (omega arith)
+    go false t more = idle-stays m rest
+
+-- "slots 0 to m − 1, one a step, m steps": after fewer the walk is at the slot of that number
+pub walk-underway : (m : ℕ) (met : List Met) → length met < m → workAfter m (Walking (record { next = 0 })) met ≡ Walking (record { next = length met })
+walk-underway m met h = walk-goes-on m 0 met (omega arith) ∙ ap (λ (n : ℕ). Walking (record { next = n })) (omega arith)
+
+-- and the m-th ends it
+pub walk-ended : (m : ℕ) (met : List Met) → 1 ≤ m → length met ≡ m → workAfter m (Walking (record { next = 0 })) met ≡ Idle
+walk-ended m met h e = walk-ends m 0 met (omega arith) (omega arith)
+
+work-inside : (m k : ℕ) (work : ReaderWork) → 1 ≤ m → workInRange m k work ≡ true → slotRead (readerAccess m work) < m
+unfolding slotRead readerAccess workInRange
+work-inside m k Idle h e = h
+work-inside m k (LookingUp lookup) h e = search-inside m (lookup .point) (lookup .search) h
+work-inside m k (Walking walk) h e = ltb-true (walk .next) m e
+
+-- "A step reads .. exactly one slot": one of the slots lent, so that the word read is a slot's
+pub access-inside : (panel : Record) (slots : List ℕ) (reader slot : ℕ) → inRange (length slots) panel ≡ true → readerAccess (panel .m) (workOf panel reader) ≡ Slot slot → slot < length slots
+unfolding slotRead
+access-inside panel slots reader slot fits e =
+    let sizes = sizes-in-range (length slots) panel fits in
+    let inside = work-inside (panel .m) (panel .k) (workOf panel reader) (sizes .m-low) (work-in-range (length slots) panel reader fits) in
+    omega (arith, inside, sizes .whole, ap slotRead e)

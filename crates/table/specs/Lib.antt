@@ -1,3 +1,0 @@
-pub mod Starts
-pub mod FreshPanel
-pub mod ReaderFacts

@@ -1,0 +1,119 @@
+-- `whole_operations::putting::whole_put` meets its contract: refused, or searched and then stepped to the end.
+use Prim.Native.Nat.{_+_, _*_}
+use mathlib.Core.Path.{refl, _∙_, sym, ap}
+use native.Mathlib.Omega.{arith}
+use denote.Ref.{now}
+use borrow.Author.Needs.{needs}
+use Rattle.refusal.specs.Refusals.{paperJudged}
+use Rattle.record.specs.declared.Search.the-variants.{Unread}
+use Rattle.record.specs.declared.Put.{Put}
+use Rattle.record.specs.declared.PutStage.the-variants.{Searching}
+use Rattle.record.specs.declared.WriterWork.the-variants.{Putting}
+use Rattle.record.specs.Parts.{withReach, withCounts, withCount, withWriter}
+use Rattle.answers.specs.Answers.{outcome}
+use Rattle.effects.specs.Effects.{WriterEffect}
+use Rattle.put.specs.Put.{putAnswered}
+use Rattle.writer.specs.Starts.{startPut}
+use Rattle.writer.proofs.WriterLaws.{put-begins}
+use Rattle.whole_operations.specs.Whole.{wholePut, leaves}
+use Rattle.whole_operations.specs.WholeFacts.{puts, pointOfWork, searchingBy, answeredBy}
+use Rattle.whole_operations.proofs.WholeEnds.{whole-put-ends}
+use Rattle.whole_operations.proofs.WholeWriting.{reach-fits, run-refused}
+use Rattle.whole_operations.proofs.WriterSearch.{answered-puts, effect-at-work, whole-ended, has-answer}
+use Rattle.whole_operations.proofs.putting.whole_put.Statement.{statement}
+use Rattle.whole_operations.proofs.putting.whole_put.Tie as tie
+
+cast-budget : tie.Need-cast-budget
+cast-budget c = search needs
+
+mul-budget : tie.Need-mul-budget
+mul-budget c = search needs
+
+add-budget : tie.Need-add-budget
+add-budget c = search needs
+
+judge-start-requires : tie.Need-judge-start-requires
+judge-start-requires c κs = search needs
+
+enum-known-refusal : tie.Need-enum-known-refusal
+enum-known-refusal c = search needs
+
+unchanged-requires : tie.Need-unchanged-requires
+unchanged-requires c κs = search needs
+
+enum-told : tie.Need-enum-told
+enum-told c = search needs
+
+whole-search-requires : tie.Need-whole-search-requires
+whole-search-requires c κs =
+    let a = c .before .before .before .before .before .before .args in
+    let e = sym (c .before .before .before .judge-start .ensures) ∙ ap paperJudged (c .before .enum-told .given .1) in
+    reach-fits (a .panel) (now (a .slots)) (a .point) (Putting (record { point = a .point; value = a .value; stage = Searching Unread })) (2 * a .panel .k + 2) e
+
+put-answered-requires : tie.Need-put-answered-requires
+put-answered-requires c κs = search needs
+
+steps-requires : tie.Need-steps-requires
+unfolding wholePut startPut searchingBy pointOfWork answeredBy withWriter
+steps-requires c κs =
+    let a = c .before .before .before .before .before .before .before .before .before .args in
+    let s = now (a .slots) in
+    let put : Put = record { point = a .point; value = a .value; stage = Searching Unread } in
+    let e = sym (c .before .before .before .before .before .before .judge-start .ensures) ∙ ap paperJudged (c .before .before .before .before .enum-told .given .1) in
+    let effect = c .put-answered .ensures ∙ ap (putAnswered put) (c .before .before .whole-search .ensures) in
+    let held = effect-at-work (a .panel) s (a .point) (Putting put) (2 * a .panel .k + 2) e (omega arith) refl (λ answer. answered-puts put answer .0) refl refl (put-begins (a .panel) s (a .point) (a .value)) (whole-put-ends (a .panel) s (a .point) (a .value)) _ effect in
+    (held .fits, held .busy, ap (λ (m : WriterEffect). puts (m .work)) effect ∙ answered-puts put _ .1)
+
+answer-of-requires : tie.Need-answer-of-requires
+unfolding wholePut startPut leaves withReach withCount withCounts searchingBy pointOfWork answeredBy
+answer-of-requires c κs =
+    let a = c .before .before .before .before .before .before .before .before .before .before .before .before .before .args in
+    let s = now (a .slots) in
+    let put : Put = record { point = a .point; value = a .value; stage = Searching Unread } in
+    let e = sym (c .before .before .before .before .before .before .before .before .before .before .judge-start .ensures) ∙ ap paperJudged (c .before .before .before .before .before .before .before .before .enum-told .given .1) in
+    let effect = c .before .before .before .before .put-answered .ensures ∙ ap (putAnswered put) (c .before .before .before .before .before .before .whole-search .ensures) in
+    let ran = c .before .before .before .steps .ensures in
+    has-answer (a .panel) s (a .point) (Putting put) (2 * a .panel .k + 2) e (omega arith) refl (λ answer. answered-puts put answer .0) refl refl (put-begins (a .panel) s (a .point) (a .value)) (whole-put-ends (a .panel) s (a .point) (a .value)) _ effect _ _ _ _ refl (ran .1) (ran .0)
+
+returns : tie.Need-returns
+unfolding wholePut startPut
+returns c =
+    let a = c .before .before .before .before .before .before .before .args in
+    let s = now (a .slots) in
+    let e = sym (c .before .before .before .before .judge-start .ensures) ∙ ap paperJudged (c .before .before .refusal .given .1) in
+    (λ j. outcome (c .unchanged .ensures .0 j) s (c .unchanged .ensures .1 j))
+    ∙ run-refused (a .panel) s (a .point) _ (2 * a .panel .k + 2) (c .before .before .refusal .given .0 .0) e
+
+same-length : tie.Need-same-length
+same-length c = search needs
+
+returns-2 : tie.Need-returns-2
+unfolding wholePut startPut leaves withReach withCount withCounts searchingBy pointOfWork answeredBy
+returns-2 c =
+    let a = c .before .before .before .before .before .before .before .before .before .before .before .before .before .before .args in
+    let s = now (a .slots) in
+    let put : Put = record { point = a .point; value = a .value; stage = Searching Unread } in
+    let e = sym (c .before .before .before .before .before .before .before .before .before .before .before .judge-start .ensures) ∙ ap paperJudged (c .before .before .before .before .before .before .before .before .before .enum-told .given .1) in
+    let effect = c .before .before .before .before .before .put-answered .ensures ∙ ap (putAnswered put) (c .before .before .before .before .before .before .before .whole-search .ensures) in
+    let ran = c .before .before .before .before .steps .ensures in
+    ap (outcome (leaves (a .panel) (c .before .before .before .before .steps .result .changes)) _) (c .answer-of .ensures)
+    ∙ whole-ended (a .panel) s (a .point) (Putting put) (2 * a .panel .k + 2) e (omega arith) refl (λ answer. answered-puts put answer .0) refl refl (put-begins (a .panel) s (a .point) (a .value)) (whole-put-ends (a .panel) s (a .point) (a .value)) _ effect _ _ _ _ refl (ran .1) (ran .0)
+
+pub whole-put-spec : {M : Type 1} → statement M
+whole-put-spec =
+    tie.close
+    (tie.spec
+    cast-budget
+    mul-budget
+    add-budget
+    judge-start-requires
+    enum-known-refusal
+    unchanged-requires
+    enum-told
+    whole-search-requires
+    put-answered-requires
+    steps-requires
+    answer-of-requires
+    returns
+    same-length
+    returns-2)

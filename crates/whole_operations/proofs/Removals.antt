@@ -23,8 +23,21 @@ use Rattle.effects.specs.Effects.{WriterEffect, ends, updated}
 use Rattle.record.specs.Idle.{isWriterIdle}
 use Rattle.removal.specs.Removal.{isLast, removalAt, removalAnswered, removalSearched, removalEmpties, removalLowers, removalStageAdvance, removalAdvance}
 use Rattle.writer.specs.Step.{writerAdvance}
-use Rattle.whole_operations.specs.WholeFacts.{indexUncounted, isBefore, isToRemove, removes}
+use Rattle.whole_operations.specs.WholeFacts.{indexUncounted, removes}
 use Rattle.whole_operations.proofs.ChangesLaws.{no-count}
+
+-- the slot is not emptied yet
+unfoldable pub isBefore : RemovalStage → Bool
+isBefore (Searching search) = true
+isBefore (RemovalStage·Found place) = true
+isBefore Lowering = false
+
+-- a removal whose slot is not emptied yet
+unfoldable pub isToRemove : WriterWork → Bool
+isToRemove Idle = false
+isToRemove (Putting put) = false
+isToRemove (Changing change) = false
+isToRemove (Removing removal) = isBefore (removal .stage)
 
 -- the record held differs from the one that the removal began with in the reach and in this index's count, and in no count as long as the slot is not emptied
 pub record Kept (panel held : Record) (index : ℕ) (work : WriterWork) : Type 0 where

@@ -39,11 +39,33 @@ use Rattle.writer.specs.Step.{writerAccess, writerAdvance}
 use Rattle.writer.specs.WriterFacts.{Begun}
 use Rattle.writer.proofs.WriterLaws.{AtWork}
 use Rattle.whole_operations.specs.Whole.{untilEnded, writerStep}
-use Rattle.whole_operations.specs.WholeFacts.{puts, removes, searchEnd, pointOfWork, searchingBy, answeredBy}
+use Rattle.whole_operations.specs.WholeFacts.{puts, removes, searchEnd}
 use Rattle.whole_operations.proofs.WholeEnds.{stays-at-work}
 use Rattle.whole_operations.proofs.WholeSearch.{standing, Comes, search-comes}
 use Rattle.whole_operations.proofs.WholeWriting.{begun-at-work, begun-ends, run-ended}
 use Rattle.whole_operations.proofs.WorkBeside.{step-beside}
+
+-- the point that an operation is about
+unfoldable pub pointOfWork : WriterWork → ℕ
+pointOfWork Idle = 0
+pointOfWork (Putting put) = put .point
+pointOfWork (Changing change) = change .point
+pointOfWork (Removing removal) = removal .point
+
+-- an operation with this search underway
+unfoldable pub searchingBy : WriterWork → Search → WriterWork
+searchingBy Idle search = Idle
+searchingBy (Putting put) search = Putting (record { point = put .point; value = put .value; stage = PutStage·Searching search })
+searchingBy (Changing change) search =
+    Changing (record { point = change .point; alteration = change .alteration; stage = ChangeStage·Searching search })
+searchingBy (Removing removal) search = Removing (record { point = removal .point; stage = RemovalStage·Searching search })
+
+-- what an operation comes to in the step that answers its search
+unfoldable pub answeredBy : WriterWork → SearchAnswer → WriterEffect
+answeredBy Idle answer = goesOn Idle
+answeredBy (Putting put) answer = putAnswered put answer
+answeredBy (Changing change) answer = changeAnswered change answer
+answeredBy (Removing removal) answer = removalAnswered removal answer
 
 -- ---- parts 1 and 3 of a step of the search
 access-of : (panel : Record) (work : WriterWork) (search : Search) → isWriterIdle work ≡ false → writerAccess panel (searchingBy work search) ≡ Read (searchAccess (panel .m) (pointOfWork work) search)

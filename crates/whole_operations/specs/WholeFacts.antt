@@ -2,10 +2,6 @@
 use Prim.Native.Nat.{ℕ, zero, suc}
 use mathlib.Core.Bool.{Bool, true, false}
 use mathlib.Core.List.{List}
-use Rattle.record.specs.declared.ChangeStage.the-variants.{Searching as ChangeStage·Searching}
-use Rattle.record.specs.declared.PutStage.the-variants.{Searching as PutStage·Searching}
-use Rattle.record.specs.declared.RemovalStage.{RemovalStage}
-use Rattle.record.specs.declared.RemovalStage.the-variants.{Searching as RemovalStage·Searching, Found, Lowering}
 use Rattle.record.specs.declared.Search.{Search}
 use Rattle.record.specs.declared.WriterWork.{WriterWork}
 use Rattle.record.specs.declared.WriterWork.the-variants.{Idle, Putting, Changing, Removing}
@@ -17,10 +13,6 @@ use Rattle.search.specs.Access.{wordRead}
 use Rattle.search.specs.Search.{searchAccess, searchAdvance}
 use Rattle.effects.specs.declared.update.Update.{Update}
 use Rattle.effects.specs.declared.update.Update.the-variants.{Nothing, Reach, Counted, Uncounted, Answered}
-use Rattle.effects.specs.Effects.{WriterEffect, goesOn}
-use Rattle.put.specs.Put.{putAnswered}
-use Rattle.change.specs.Change.{changeAnswered}
-use Rattle.removal.specs.Removal.{removalAnswered}
 
 -- what a search comes to from how it stands after a step
 unfoldable pub answerAfter : (Search → SearchAnswer) → Searched → SearchAnswer
@@ -32,28 +24,6 @@ unfoldable pub searchEnd : List ℕ → ℕ → ℕ → ℕ → ℕ → Search �
 searchEnd slots m point reach zero search = Unknown
 searchEnd slots m point reach (suc n) search =
     answerAfter (searchEnd slots m point reach n) (searchAdvance reach point search (wordRead slots (searchAccess m point search)))
-
--- the point that an operation is about
-unfoldable pub pointOfWork : WriterWork → ℕ
-pointOfWork Idle = 0
-pointOfWork (Putting put) = put .point
-pointOfWork (Changing change) = change .point
-pointOfWork (Removing removal) = removal .point
-
--- an operation with this search underway
-unfoldable pub searchingBy : WriterWork → Search → WriterWork
-searchingBy Idle search = Idle
-searchingBy (Putting put) search = Putting (record { point = put .point; value = put .value; stage = PutStage·Searching search })
-searchingBy (Changing change) search =
-    Changing (record { point = change .point; alteration = change .alteration; stage = ChangeStage·Searching search })
-searchingBy (Removing removal) search = Removing (record { point = removal .point; stage = RemovalStage·Searching search })
-
--- what an operation comes to in the step that answers its search
-unfoldable pub answeredBy : WriterWork → SearchAnswer → WriterEffect
-answeredBy Idle answer = goesOn Idle
-answeredBy (Putting put) answer = putAnswered put answer
-answeredBy (Changing change) answer = changeAnswered change answer
-answeredBy (Removing removal) answer = removalAnswered removal answer
 
 -- a put, or nothing any more: neither looks at a count
 unfoldable pub puts : WriterWork → Bool
@@ -77,19 +47,6 @@ indexUncounted before (Reach reach) = before
 indexUncounted before (Counted index) = before
 indexUncounted before (Uncounted index) = index
 indexUncounted before (Answered command) = before
-
--- the slot is not emptied yet
-unfoldable pub isBefore : RemovalStage → Bool
-isBefore (RemovalStage·Searching search) = true
-isBefore (Found place) = true
-isBefore Lowering = false
-
--- a removal whose slot is not emptied yet
-unfoldable pub isToRemove : WriterWork → Bool
-isToRemove Idle = false
-isToRemove (Putting put) = false
-isToRemove (Changing change) = false
-isToRemove (Removing removal) = isBefore (removal .stage)
 
 -- a removal, or nothing any more
 unfoldable pub removes : WriterWork → Bool

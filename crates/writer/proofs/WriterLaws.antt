@@ -8,7 +8,6 @@ use native.Mathlib.Omega.{arith}
 use borrow.Author.Tests.{not-true, not-false}
 use lib.ListN.{length, getD, length-set}
 use lib.Seq.{getD-set-same, getD-set-other}
-use Rattle.conditions.specs.Conditions.{both}
 use Rattle.refusal.specs.Judging.{refuseIf}
 use Rattle.conditions.proofs.ConditionLaws.{both-true}
 use Rattle.refusal.proofs.Laws.{not-refused}
@@ -17,10 +16,10 @@ use Rattle.record.specs.declared.WriterWork.{WriterWork}
 use Rattle.record.specs.declared.WriterWork.the-variants.{Idle, Putting, Changing, Removing}
 use Rattle.record.specs.Parts.{withWriter}
 use Rattle.slot_words.specs.Points.{validPoint}
-use Rattle.work_ranges.specs.WorkRanges.{searchInRange, putStageInRange, putInRange, alterationInRange, changeStageInRange, changeInRange, removalStageInRange, removalInRange, writerInRange}
+use Rattle.work_ranges.specs.WorkRanges.{searchInRange, putStageInRange, putInRange, removalStageInRange, removalInRange, writerInRange}
 use Rattle.record_ranges.specs.Ranges.{inRange}
 use Rattle.record_ranges.proofs.Laws.{fields, sizes-in-range, with-writer-in-range}
-use Rattle.writer.specs.Starts.{startRefusal, startWriter, startPut, startChange, startRemoval}
+use Rattle.writer.specs.Starts.{startRefusal, startWriter, startPut, startRemoval}
 use Rattle.writer.specs.WriterFacts.{Does, reads, stores-reach, stores-slot, Keeps, Begun}
 use Rattle.writer.specs.Step.{writerAccess, writerAdvance, stepRefusal, afterStep, writerRuns, stepWriter}
 use Rattle.answers.specs.Answers.{started, isUnderway, Outcome, outcome, unlessRefused}
@@ -128,10 +127,6 @@ module _ (panel : Record) (slots : List ℕ) (point : ℕ) where
   pub put-begins : (value : ℕ) → Begun (startPut panel slots point value)
   unfolding startPut writerInRange putInRange putStageInRange searchInRange
   put-begins value = start-begins panel slots point _ (λ valid. both-true (validPoint point) true valid refl) refl
-
-  pub change-begins : (keep flip : ℕ) → Begun (startChange panel slots point keep flip)
-  unfolding startChange writerInRange changeInRange alterationInRange changeStageInRange searchInRange
-  change-begins keep flip = start-begins panel slots point _ (λ valid. both-true (validPoint point) (both true true) valid (both-true true true refl refl)) refl
 
   pub removal-begins : Begun (startRemoval panel slots point)
   unfolding startRemoval writerInRange removalInRange removalStageInRange searchInRange

@@ -16,10 +16,10 @@ use Rattle.put.specs.Put.{putAnswered}
 use Rattle.writer.specs.Starts.{startPut}
 use Rattle.writer.proofs.WriterLaws.{put-begins}
 use Rattle.whole_operations.specs.Whole.{wholePut, leaves}
-use Rattle.whole_operations.specs.WholeFacts.{puts, pointOfWork, searchingBy, answeredBy}
+use Rattle.whole_operations.specs.WholeFacts.{puts}
 use Rattle.whole_operations.proofs.WholeEnds.{whole-put-ends}
 use Rattle.whole_operations.proofs.WholeWriting.{reach-fits, run-refused}
-use Rattle.whole_operations.proofs.WriterSearch.{answered-puts, effect-at-work, whole-ended, has-answer}
+use Rattle.whole_operations.proofs.WriterSearch.{pointOfWork, searchingBy, answeredBy, answered-puts, effect-at-work, whole-ended, has-answer}
 use Rattle.whole_operations.proofs.putting.whole_put.Statement.{statement}
 use Rattle.whole_operations.proofs.putting.whole_put.Tie as tie
 

@@ -16,10 +16,10 @@ use Rattle.removal.specs.Removal.{removalAnswered}
 use Rattle.writer.specs.Starts.{startRemoval}
 use Rattle.writer.proofs.WriterLaws.{removal-begins}
 use Rattle.whole_operations.specs.Whole.{wholeRemoval, leaves}
-use Rattle.whole_operations.specs.WholeFacts.{removes, pointOfWork, searchingBy, answeredBy}
+use Rattle.whole_operations.specs.WholeFacts.{removes}
 use Rattle.whole_operations.proofs.WholeEnds.{whole-removal-ends}
 use Rattle.whole_operations.proofs.WholeWriting.{reach-fits, run-refused}
-use Rattle.whole_operations.proofs.WriterSearch.{answered-removes, effect-at-work, whole-ended, has-answer}
+use Rattle.whole_operations.proofs.WriterSearch.{pointOfWork, searchingBy, answeredBy, answered-removes, effect-at-work, whole-ended, has-answer}
 use Rattle.whole_operations.proofs.removing.whole_removal.Statement.{statement}
 use Rattle.whole_operations.proofs.removing.whole_removal.Tie as tie
 

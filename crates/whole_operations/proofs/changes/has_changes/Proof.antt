@@ -9,7 +9,7 @@ either-holds-requires c κs = search needs
 
 returns : tie.Need-returns
 unfolding changesAny
-returns c = cc
+returns c = c .either-holds .ensures
 
 pub has-changes-spec : {M : Type 1} → statement M
 has-changes-spec = tie.close (tie.spec either-holds-requires returns)

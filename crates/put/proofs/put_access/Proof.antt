@@ -51,13 +51,13 @@ returns-3 c =
 
 returns-4 : tie.Need-returns-4
 unfolding exceeds putAccess putStageAccess
-returns-4 c = rw (c .before .before .stage4 .given .1, lt-ltb _ _ (c .if1 .taken))
+returns-4 c = rw (c .before .before .stage4 .given .1, lt-ltb (c .before .before .before .before .before .args .reach) _ (c .if1 .taken))
 
 returns-5 : tie.Need-returns-5
 unfolding exceeds putAccess putStageAccess
 returns-5 c =
     let a = c .before .before .before .before .before .before .args in
-    rw (c .before .before .before .stage4 .given .1, le-ltb _ _ (c .before .if1 .left))
+    rw (c .before .before .before .stage4 .given .1, le-ltb (a .reach) _ (c .before .if1 .left))
     (c .store-word2 .ensures ∙ ap (storeWord (a .m) (a .put .point) (c .before .before .before .stage4 .given .0 .0)) (c .before .before .before .before .before .word-of .ensures))
 
 pub put-access-spec : {M : Type 1} → statement M

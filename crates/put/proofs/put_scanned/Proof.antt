@@ -20,14 +20,14 @@ put-at-requires-2 c κs = search needs
 
 returns-2 : tie.Need-returns-2
 unfolding putScanned
-returns-2 c = rw (ne-eqb _ _ (c .before .before .if1 .left), lt-ltb _ _ (c .before .if2 .taken)) (c .put-at2 .ensures)
+returns-2 c = rw (ne-eqb _ _ (c .before .before .if1 .left), lt-ltb _ (c .before .before .before .args .k) (c .before .if2 .taken)) (c .put-at2 .ensures)
 
 ended-requires : tie.Need-ended-requires
 ended-requires c κs = search needs
 
 returns-3 : tie.Need-returns-3
 unfolding putScanned
-returns-3 c = rw (ne-eqb _ _ (c .before .before .if1 .left), le-ltb _ _ (c .before .if2 .left)) (c .ended .ensures)
+returns-3 c = rw (ne-eqb _ _ (c .before .before .if1 .left), le-ltb _ (c .before .before .before .args .k) (c .before .if2 .left)) (c .ended .ensures)
 
 pub put-scanned-spec : {M : Type 1} → statement M
 put-scanned-spec =

@@ -17,7 +17,7 @@ returns c = rw (sym (c .before .is-in-range .ensures) ∙ not-true _ (c .if1 .ta
 
 returns-2 : tie.Need-returns-2
 unfolding walkRefusal refuseIf
-returns-2 c = rw (sym (c .before .before .is-in-range .ensures) ∙ not-false _ (c .before .if1 .left), lt-ltb _ _ (c .if2 .taken))
+returns-2 c = rw (sym (c .before .before .is-in-range .ensures) ∙ not-false _ (c .before .if1 .left), lt-ltb 15 _ (c .if2 .taken))
 
 work-of-requires : tie.Need-work-of-requires
 work-of-requires c κs = search needs
@@ -27,11 +27,11 @@ is-reader-idle-requires c κs = search needs
 
 returns-3 : tie.Need-returns-3
 unfolding walkRefusal refuseIf
-returns-3 c = rw (sym (c .before .before .before .before .before .is-in-range .ensures) ∙ not-false _ (c .before .before .before .before .if1 .left), le-ltb _ _ (c .before .before .before .if2 .left), sym (c .before .is-reader-idle .ensures ∙ ap isReaderIdle (c .before .before .work-of .ensures)) ∙ not-true _ (c .if3 .taken))
+returns-3 c = rw (sym (c .before .before .before .before .before .is-in-range .ensures) ∙ not-false _ (c .before .before .before .before .if1 .left), le-ltb 15 _ (c .before .before .before .if2 .left), sym (c .before .is-reader-idle .ensures ∙ ap isReaderIdle (c .before .before .work-of .ensures)) ∙ not-true _ (c .if3 .taken))
 
 returns-4 : tie.Need-returns-4
 unfolding walkRefusal refuseIf
-returns-4 c = rw (sym (c .before .before .before .before .before .is-in-range .ensures) ∙ not-false _ (c .before .before .before .before .if1 .left), le-ltb _ _ (c .before .before .before .if2 .left), sym (c .before .is-reader-idle .ensures ∙ ap isReaderIdle (c .before .before .work-of .ensures)) ∙ not-false _ (c .if3 .left))
+returns-4 c = rw (sym (c .before .before .before .before .before .is-in-range .ensures) ∙ not-false _ (c .before .before .before .before .if1 .left), le-ltb 15 _ (c .before .before .before .if2 .left), sym (c .before .is-reader-idle .ensures ∙ ap isReaderIdle (c .before .before .work-of .ensures)) ∙ not-false _ (c .if3 .left))
 
 pub judge-walk-spec : {M : Type 1} → statement M
 judge-walk-spec =

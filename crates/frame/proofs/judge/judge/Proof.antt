@@ -1,7 +1,9 @@
 -- `frame::judge::judge` meets its contract: each return has the tests before it failed and its own held.
 use mathlib.Core.Path.{sym, _∙_}
+use Rattle.conditions.specs.Conditions.{both, outside}
 use Rattle.refusal.specs.Judging.{refuseIf}
 use Rattle.frame.specs.Frames.{judged}
+use Rattle.frame.specs.Layouts.{present}
 use borrow.Author.Needs.{needs}
 use Rattle.frame.proofs.judge.judge.Statement.{statement}
 use Rattle.frame.proofs.judge.judge.Tie as tie
@@ -62,7 +64,7 @@ returns-5 c =
       sym (c .before .before .before .before .before .before .before .is-out-of-range2 .ensures) ∙ c .before .before .before .before .before .before .if2 .left,
       sym (c .before .before .before .before .before .is-out-of-range3 .ensures) ∙ c .before .before .before .before .if3 .left,
       sym (c .before .before .before .is-out-of-range4 .ensures) ∙ c .before .before .if4 .left,
-      sym (c .before .is-out-of-range5 .ensures) ∙ c .if5 .taken,
+      sym {b = both (present (c .before .before .before .before .before .before .before .before .before .before .args .l .refusal)) (outside 1 (c .before .before .before .before .before .before .before .before .before .before .args .f .refusal) 14)} (c .before .is-out-of-range5 .ensures) ∙ c .if5 .taken,
     )
 
 returns-6 : tie.Need-returns-6
@@ -73,7 +75,7 @@ returns-6 c =
       sym (c .before .before .before .before .before .before .before .is-out-of-range2 .ensures) ∙ c .before .before .before .before .before .before .if2 .left,
       sym (c .before .before .before .before .before .is-out-of-range3 .ensures) ∙ c .before .before .before .before .if3 .left,
       sym (c .before .before .before .is-out-of-range4 .ensures) ∙ c .before .before .if4 .left,
-      sym (c .before .is-out-of-range5 .ensures) ∙ c .if5 .left,
+      sym {b = both (present (c .before .before .before .before .before .before .before .before .before .before .args .l .refusal)) (outside 1 (c .before .before .before .before .before .before .before .before .before .before .args .f .refusal) 14)} (c .before .is-out-of-range5 .ensures) ∙ c .if5 .left,
     )
 
 pub judge-spec : {M : Type 1} → statement M

@@ -1,7 +1,7 @@
 -- `line::commands::put_command` meets its contract, by the letter that it asks for.
 use mathlib.Core.Path.{_∙_, sym}
 use borrow.Author.Needs.{needs}
-use Rattle.line.specs.LineState.{putCommand}
+use Rattle.line.specs.LineState.{isLetterField, putCommand}
 use Rattle.line.proofs.commands.put_command.Statement.{statement}
 use Rattle.line.proofs.commands.put_command.Tie as tie
 
@@ -20,12 +20,12 @@ put-line-requires c κs = search needs
 returns : tie.Need-returns
 unfolding putCommand
 returns c =
-    let is-put = sym (c .before .before .before .before .is-letter .ensures) ∙ c .before .before .before .if1 .taken in
+    let is-put = sym {b = isLetterField 80 (c .before .before .before .before .before .args .letter)} (c .before .before .before .before .is-letter .ensures) ∙ c .before .before .before .if1 .taken in
     rw (is-put, ← c .before .before .number-of .ensures, ← c .before .number-of2 .ensures) (c .put-line .ensures)
 
 returns-2 : tie.Need-returns-2
 unfolding putCommand
-returns-2 c = rw (sym (c .before .is-letter .ensures) ∙ c .if1 .left)
+returns-2 c = rw (sym {b = isLetterField 80 (c .before .before .args .letter)} (c .before .is-letter .ensures) ∙ c .if1 .left)
 
 pub put-command-spec : {M : Type 1} → statement M
 put-command-spec =

@@ -36,11 +36,11 @@ kept-requires c κs = search needs
 
 returns : tie.Need-returns
 unfolding digitsMore
-returns c = rw (sym (c .before .before .before .is-digit .ensures) ∙ c .before .before .if1 .taken, lt-ltb _ _ (c .before .if2 .taken)) (c .kept .ensures)
+returns c = rw (sym (c .before .before .before .is-digit .ensures) ∙ c .before .before .if1 .taken, lt-ltb _ 10 (c .before .if2 .taken)) (c .kept .ensures)
 
 returns-2 : tie.Need-returns-2
 unfolding digitsMore
-returns-2 c = rw (sym (c .before .before .is-digit .ensures) ∙ c .before .if1 .taken, le-ltb _ _ (c .if2 .left))
+returns-2 c = rw (sym (c .before .before .is-digit .ensures) ∙ c .before .if1 .taken, le-ltb _ 10 (c .if2 .left))
 
 returns-3 : tie.Need-returns-3
 unfolding digitsMore

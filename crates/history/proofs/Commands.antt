@@ -1,13 +1,12 @@
--- What is true of the stations and of the commands noted, between two calls: each station's stored answer is one that its last command's change gave; no command that
--- acted or ended has a number above its station's last; the command underway has the number after it. So no station's number acts or ends twice.
+-- What is true of the stations and of the commands noted, between two calls: each station holds the last of its commands that ended, with the answer that its change
+-- gave; no command that acted or ended has a number above its station's last; the command underway has the number after it. So no station's number acts or ends twice.
 use Prim.Native.Nat.{ℕ, _+_, _≤_, _<_}
 use mathlib.Core.Bool.{Bool, true, false, cond}
-use mathlib.Core.Path.{_≡_, refl, sym, ap, subst, _∙_}
-use mathlib.Core.Logic.{_≢_}
+use mathlib.Core.Path.{_≡_, refl, sym, ap, _∙_}
 use mathlib.Core.List.{List, [], _∷_}
 use native.Mathlib.Omega.{arith}
 use native.Mathlib.Decide.{ℕ-discrete}
-use borrow.Author.Tests.{eqb-true}
+use borrow.Author.Tests.{eqb-true, eq-eqb, ne-eqb}
 use lib.Dec.{eqb}
 use lib.ListN.{length}
 use Rattle.conditions.specs.Conditions.{both}
@@ -21,11 +20,11 @@ use Rattle.record.specs.declared.WriterWork.the-variants.{Idle, Putting, Changi
 use Rattle.record.specs.Parts.{unheardStation, numbered, withNumbered}
 use Rattle.record.proofs.Numbered.{replaced-length, replaced-same, replaced-other}
 use Rattle.answers.specs.Answers.{Ending, storedAnswer}
-use Rattle.plain_list.specs.PlainList.{Each, here, there}
+use Rattle.plain_list.specs.PlainList.{Each}
 use Rattle.effects.proofs.StepAgreement.{begun, fedBy, isCommanded, isCommand}
 use Rattle.command.specs.declared.Sent.{Sent}
-use Rattle.history.specs.World.{Given}
-use Rattle.history.specs.Claim.{Gave, times, sents}
+use Rattle.history.specs.Log.{Given, lastGiven}
+use Rattle.history.specs.Claim.{times, sents}
 
 -- a command from its parts
 abbrev pub sentBy : ℕ → Command → Sent
@@ -75,9 +74,13 @@ fed-no-command work fed = no-command-of work (fed-not-command work fed)
 abbrev pub lastOf : List Station → ℕ → Station
 lastOf stations station = numbered stations station unheardStation
 
--- it as a command
-abbrev pub lastSent : ℕ → Station → Sent
-lastSent station last = record { station = station; number = last .number; point = last .point; action = last .action }
+-- it with its answer
+abbrev pub heldBy : ℕ → Station → Given
+heldBy station last =
+    record {
+      sent = record { station = station; number = last .number; point = last .point; action = last .action };
+      answer = storedAnswer (last .answer);
+    }
 
 -- a number not above its station's last
 pub record NotAbove (stations : List Station) (sent : Sent) : Type 0 where
@@ -91,7 +94,7 @@ pub record IsNext (stations : List Station) (sent : Sent) : Type 0 where
 
 pub record CommandsOK (stations : List Station) (command : List Sent) (acts : List Sent) (ended : List Given) : Type 0 where
   pub all-stations : length stations ≡ 32
-  pub stored : (station : ℕ) → lastOf stations station .number ≢ 0 → Gave ended (storedAnswer (lastOf stations station .answer)) (lastSent station (lastOf stations station))
+  pub lasts : (station : ℕ) → lastGiven station ended ≡ heldBy station (lastOf stations station)
   pub acts-low : Each (NotAbove stations) acts
   pub ended-low : Each (NotAbove stations) (sents ended)
   pub acts-once : (station number : ℕ) → times station number acts ≤ 1
@@ -103,7 +106,7 @@ pub with-command : (stations : List Station) (command new : List Sent) (acts : L
 with-command stations command new acts ended ok next =
     record {
       all-stations = ok .all-stations;
-      stored = ok .stored;
+      lasts = ok .lasts;
       acts-low = ok .acts-low;
       ended-low = ok .ended-low;
       acts-once = ok .acts-once;
@@ -172,17 +175,14 @@ module _ (stations : List Station) (sent : Sent) (acts : List Sent) (ended : Lis
   mine-low : NotAbove after sent
   mine-low = record { low = let a = ap (λ (s : Station). s .number) new-last in omega arith }
 
-  still-stored : (station : ℕ) → Dec (station ≡ sent .station) → lastOf after station .number ≢ 0 → Gave (record { sent = sent; answer = answer } ∷ ended) (storedAnswer (lastOf after station .answer)) (lastSent station (lastOf after station))
-  unfolding Gave
-  still-stored station (yes e) some =
-      let last : lastOf after station ≡ new = ap (lastOf after) e ∙ new-last in
-      here (
-        subst (λ (s : Station). sent ≡ lastSent station s) (sym last) (ap (λ (x : ℕ). lastSent x new) (sym e)),
-        subst (λ (s : Station). answer ≡ storedAnswer (s .answer)) (sym last) (sym same),
-      )
-  still-stored station (no e) some =
-      let last = replaced-other stations (sent .station) new unheardStation station e in
-      subst (λ (s : Station). s .number ≢ 0 → Gave (record { sent = sent; answer = answer } ∷ ended) (storedAnswer (s .answer)) (lastSent station s)) (sym last) (λ n. there (ok .stored station n)) some
+  lasts-after : (station : ℕ) → Dec (station ≡ sent .station) → lastGiven station (record { sent = sent; answer = answer } ∷ ended) ≡ heldBy station (lastOf after station)
+  unfolding lastGiven
+  lasts-after station (yes e) =
+      rw (eq-eqb (sent .station) station (sym e))
+      (sym (ap (heldBy station) (ap (lastOf after) e ∙ new-last) ∙ ap (λ (x : ℕ). heldBy x new) e ∙ ap (λ (a : Ending). record { sent = sent; answer = a }) same))
+  lasts-after station (no e) =
+      rw (ne-eqb (sent .station) station (λ x. e (sym x)))
+      (ok .lasts station ∙ ap (heldBy station) (sym (replaced-other stations (sent .station) new unheardStation station e)))
 
   acts-after : (acted : Bool) → Each (NotAbove after) (cond acted (sent ∷ acts) acts)
   acts-after true = (mine-low, still-low acts (ok .acts-low))
@@ -197,7 +197,7 @@ module _ (stations : List Station) (sent : Sent) (acts : List Sent) (ended : Lis
   recorded acted =
       record {
         all-stations = replaced-length stations (sent .station) new ∙ ok .all-stations;
-        stored = λ station. still-stored station (ℕ-discrete station (sent .station));
+        lasts = λ station. lasts-after station (ℕ-discrete station (sent .station));
         acts-low = acts-after acted;
         ended-low = (mine-low, still-low (sents ended) (ok .ended-low));
         acts-once = once-after acted;

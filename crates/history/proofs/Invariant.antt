@@ -1,8 +1,8 @@
--- What is true of a world before the first call and after each, and that it follows what the claim says of a world. The invariant speaks of the record and the
--- definitions that the contracts cite: the table agrees with the plain list, the writer's work and what is noted of it fit together, and so do each reader's; the
--- stations fit the commands noted.
+-- What is true of a world before the first call and after each, and that what the claim says of a world follows. The invariant speaks of the record and the
+-- definitions that the contracts cite: the table agrees with the plain list; the writer's work, the log and what is noted of it fit together, and so do each reader's;
+-- the stations fit the commands that the log has.
 use Prim.Native.Nat.{ℕ, zero, suc, _+_, _≤_}
-use mathlib.Core.Bool.{true, false, false≢true}
+use mathlib.Core.Bool.{true}
 use mathlib.Core.Path.{_≡_, refl, sym, ap, subst}
 use mathlib.Core.Logic.{_≢_, inl}
 use mathlib.Core.List.{List, []}
@@ -10,37 +10,37 @@ use native.Mathlib.Omega.{arith}
 use borrow.Author.Tests.{eq-eqb}
 use lib.ListN.{length, getD, replicate, length-replicate, getD-replicate}
 use Rattle.record.specs.declared.Reader.{Reader}
-use Rattle.record.specs.declared.Station.{Station}
 use Rattle.record.specs.declared.ReaderWork.{ReaderWork}
 use Rattle.record.specs.declared.ReaderWork.the-variants.{Idle as ReaderWork·Idle}
 use Rattle.record.specs.declared.WriterWork.{WriterWork}
+use Rattle.record.specs.declared.WriterWork.the-variants.{Idle}
 use Rattle.record.specs.Parts.{idleReader, unheardStation, freshRecord, workOf, numbered}
 use Rattle.record_ranges.specs.Ranges.{sizesInRange, inRange}
 use Rattle.record_ranges.proofs.Laws.{fresh-in-range}
 use Rattle.conditions.proofs.ConditionLaws.{both-true, is-within}
-use Rattle.answers.specs.Answers.{removed, gives, outcome}
+use Rattle.answers.specs.Answers.{removed, gives, storedAnswer, outcome}
 use Rattle.fresh_panel.specs.FreshPanel.{makeFresh}
 use Rattle.slot_words.specs.Taken.{takenSlots}
-use Rattle.plain_list.specs.PlainList.{Rows, entryOf, largestIndex}
+use Rattle.plain_list.specs.PlainList.{Rows, entryOf, nothing, largestIndex}
 use Rattle.plain_list.proofs.RowLaws.{present≢absent}
 use Rattle.plain_list.proofs.IndexLaws.{countIndex}
 use Rattle.plain_list.proofs.Agreement.{Agrees, shows}
-use Rattle.record.specs.Idle.{isWriterIdle}
 use Rattle.effects.proofs.EffectLaws.{writerLeft}
 use Rattle.effects.proofs.StepAgreement.{WorkOK, fedBy}
 use Rattle.writer.proofs.WriterAgreement.{operationOf}
-use Rattle.history.specs.World.{WriterNotes, World, freshWorld, begunReader}
+use Rattle.history.specs.Log.{Writing, writing, freshLog, lastGiven}
+use Rattle.history.specs.World.{WriterNotes, noWriterNotes, noReaderNotes, World, freshWorld}
 use Rattle.history.specs.Claim.{times, sents, stepBound, WorldRight}
-use Rattle.history.proofs.Readers.{ReaderOK}
-use Rattle.history.proofs.Commands.{commandOf, CommandsOK}
+use Rattle.history.proofs.Readers.{ReaderOK, readingOf}
+use Rattle.history.proofs.Commands.{commandOf, heldBy, CommandsOK}
 
--- what is noted of the writer's work underway
-pub record WriterOK (m k reach : ℕ) (rows : Rows) (notes : WriterNotes) (work : WriterWork) : Type 0 where
-  pub asked : notes .asked ≡ operationOf work
-  pub command : notes .command ≡ commandOf work
+-- what the log and the notes say of the writer's work; of a writer without work they say nothing
+pub record WriterOK (m k reach : ℕ) (rows : Rows) (underway : Writing) (notes : WriterNotes) (work : WriterWork) : Type 0 where
+  pub operation : underway .operation ≡ operationOf work
+  pub command : underway .command ≡ commandOf work
   pub feeds : notes .feeds ≡ fedBy work
   pub told : fedBy work ≡ 1 → notes .told ≡ removed (largestIndex m k rows)
-  pub left : notes .steps + writerLeft k reach work ≤ stepBound k (notes .asked)
+  pub left : notes .steps + writerLeft k reach work ≤ stepBound k (underway .operation)
 
 pub record Inv (m k : ℕ) (world : World) : Type 0 where
   pub m-is : world .panel .m ≡ m
@@ -49,9 +49,10 @@ pub record Inv (m k : ℕ) (world : World) : Type 0 where
   pub all-readers : length (world .panel .readers) ≡ 16
   pub agrees : Agrees m k (world .panel .reach) (world .panel .counts) (world .slots) (world .rows)
   pub work : WorkOK m k (world .panel .reach) (world .slots) (world .rows) (world .panel .writer .work)
-  pub writer : isWriterIdle (world .panel .writer .work) ≡ false → WriterOK m k (world .panel .reach) (world .rows) (world .writer) (world .panel .writer .work)
+  pub writer : WriterOK m k (world .panel .reach) (world .rows) (world .log .writer) (world .writer) (world .panel .writer .work)
+  pub reading : (n : ℕ) → world .log .readers n ≡ readingOf (workOf (world .panel) n)
   pub readers : (n : ℕ) → ReaderOK m k (world .rows) (world .readers n) (workOf (world .panel) n)
-  pub commands : CommandsOK (world .panel .stations) (commandOf (world .panel .writer .work)) (world .acts) (world .ended)
+  pub commands : CommandsOK (world .panel .stations) (commandOf (world .panel .writer .work)) (world .acts) (world .log .ended)
 
 -- what the claim says of a world
 pub world-right : (m k : ℕ) (world : World) → Inv m k world → WorldRight m k world
@@ -63,6 +64,12 @@ world-right m k world inv =
       acts-once = inv .commands .acts-once;
       ends-once = inv .commands .ends-once;
     }
+
+-- a writer without work, of which nothing is noted
+pub idle-noted : (m k reach : ℕ) (rows : Rows) → WriterOK m k reach rows (writing nothing []) noWriterNotes Idle
+unfolding noWriterNotes operationOf commandOf stepBound writerLeft
+idle-noted m k reach rows =
+    record { operation = refl; command = refl; feeds = refl; told = λ fed. absurd (omega arith); left = omega arith }
 
 -- an element of a list of equal elements, or what stands for one past its end
 replicated : {A : Type 0} (n i : ℕ) (x : A) → getD (replicate n x) i x ≡ x
@@ -119,11 +126,11 @@ module _ (m k : ℕ) (m-low : 1 ≤ m) (m-high : m ≤ 4096) (k-low : 1 ≤ k) (
       }
 
   fresh-commands : CommandsOK (replicate 32 unheardStation) [] [] []
-  unfolding sents times
+  unfolding sents times lastGiven storedAnswer
   fresh-commands =
       record {
         all-stations = refl;
-        stored = λ station some. absurd (some (ap (λ (s : Station). s .number) (all-unheard station)));
+        lasts = λ station. ap (heldBy station) (sym (all-unheard station));
         acts-low = tt;
         ended-low = tt;
         acts-once = λ station number. omega arith;
@@ -136,7 +143,7 @@ module _ (m k : ℕ) (m-low : 1 ≤ m) (m-high : m ≤ 4096) (k-low : 1 ≤ k) (
   all-idle n = ap (λ (r : Reader). r .work) (replicated 16 n idleReader)
 
   pub fresh-inv : Inv m k (freshWorld m k)
-  unfolding freshWorld freshRecord commandOf
+  unfolding freshWorld freshRecord freshLog commandOf
   fresh-inv =
       record {
         m-is = refl;
@@ -145,7 +152,8 @@ module _ (m k : ℕ) (m-low : 1 ≤ m) (m-high : m ≤ 4096) (k-low : 1 ≤ k) (
         all-readers = refl;
         agrees = fresh-agrees;
         work = inl refl;
-        writer = λ busy. absurd (false≢true (sym busy));
-        readers = λ n. subst (λ (w : ReaderWork). ReaderOK m k [] (begunReader 0) w) (sym (all-idle n)) tt;
+        writer = idle-noted m k 0 [];
+        reading = λ n. sym (ap readingOf (all-idle n));
+        readers = λ n. subst (λ (w : ReaderWork). ReaderOK m k [] noReaderNotes w) (sym (all-idle n)) refl;
         commands = fresh-commands;
       }

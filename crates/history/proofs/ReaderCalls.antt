@@ -1,67 +1,57 @@
--- A refused call, and the calls of readers, keep the invariant and are answered right.
+-- The calls of readers keep the invariant and are answered right.
 use Prim.Native.Nat.{ℕ, _≤_, _<_}
-use mathlib.Core.Bool.{Bool, true, false, cond, not}
-use mathlib.Core.Path.{_≡_, refl, sym, subst, _∙_}
-use mathlib.Core.Logic.{_≢_}
+use mathlib.Core.Bool.{Bool, true, false, cond, not, false≢true}
+use mathlib.Core.Path.{_≡_, refl, sym, ap, subst, _∙_}
 use mathlib.Core.List.{List}
 use native.Mathlib.Omega.{arith}
-use borrow.Author.Tests.{eqb-true, eqb-false, eq-eqb}
-use lib.Dec.{eqb}
+use borrow.Author.Tests.{eqb-true, eqb-false, eq-eqb, ltb-false, lt-ltb, not-false}
+use lib.Dec.{eqb, ltb}
 use lib.ListN.{length, length-set}
 use Rattle.conditions.specs.Conditions.{both, either}
+use Rattle.conditions.proofs.ConditionLaws.{both-true}
+use Rattle.refusal.specs.Judging.{refuseIf}
+use Rattle.refusal.proofs.Laws.{not-refused}
 use Rattle.record.specs.declared.Record.{Record}
 use Rattle.record.specs.declared.Search.the-variants.{Unread}
 use Rattle.record.specs.declared.ReaderWork.{ReaderWork}
-use Rattle.record.specs.declared.ReaderWork.the-variants.{LookingUp, Walking}
+use Rattle.record.specs.declared.ReaderWork.the-variants.{Idle, LookingUp, Walking}
 use Rattle.record.specs.Parts.{workOf, withWork, withReaders}
 use Rattle.record.proofs.WorkLaws.{work-replaced, others-stay}
+use Rattle.record.specs.Idle.{isReaderIdle}
+use Rattle.slot_words.specs.Points.{validPoint}
+use Rattle.work_ranges.specs.WorkRanges.{searchInRange, lookupInRange, workInRange}
 use Rattle.record_ranges.specs.Ranges.{inRange}
-use Rattle.record_ranges.proofs.Laws.{fields, work-in-range, with-work-in-range}
-use Rattle.answers.specs.Answers.{Ending, refused, givenAgain, isRefused, Outcome, outcome}
-use Rattle.plain_list.specs.PlainList.{Rows, Operation, Some}
-use Rattle.plain_list.proofs.RowLaws.{steady-same}
+use Rattle.record_ranges.proofs.Laws.{fields, sizes-in-range, work-in-range, with-work-in-range}
+use Rattle.answers.specs.Answers.{Answer, started, hasEnded, isRefused, Outcome, outcome}
+use Rattle.plain_list.specs.PlainList.{Rows}
 use Rattle.search.specs.Access.{wordRead}
 use Rattle.search.proofs.SearchLaws.{searchLeft}
-use Rattle.record.specs.Idle.{isReaderIdle}
-use Rattle.reader_step.specs.Reader.{readerAccess, ReaderEffect, readerAdvance, afterStep, readerRuns, stepReader}
-use Rattle.reader_step.proofs.StepCases as step
-use Rattle.reader_starts.specs.Starts.{startLookup, startWalk}
-use Rattle.reader_starts.proofs.StartCases as start
+use Rattle.reader_step.specs.Reader.{readerAccess, ReaderEffect, readerAdvance, afterStep, readerRuns, stepRefusal, stepReader}
+use Rattle.reader_starts.specs.Starts.{lookupRefusal, walkRefusal, startReader, startLookup, startWalk}
 use Rattle.reader_starts.proofs.ReaderLaws.{advances}
-use Rattle.command.specs.declared.Sent.{Sent}
-use Rattle.history.specs.World.{Role, readerStart, readerStep, writerStart, writerStep, ReaderNotes, World, storesNow, endsNow, endedBy, endedNow, feedsNow, rowsNow, writerNow, begunReader, steppedReader, witnessed, readerNow, noted}
-use Rattle.history.specs.Claim.{Gave, start-made, given-again, start-refused, ReaderRight, reader-refused, writer-refused, Right}
-use Rattle.history.proofs.Readers.{ReaderOK, reader-on, StepRight, reader-right}
+use Rattle.history.specs.declared.Call.{Call}
+use Rattle.history.specs.declared.Call.the-variants.{StartLookup, StartWalk, StepReader}
+use Rattle.history.specs.Log.{Reading, idle, lookingUp, walking, readerStart, roleOf, writingAfter, readingAfter, endedNow, logAfter}
+use Rattle.history.specs.World.{ReaderNotes, noReaderNotes, World, storesNow, endsNow, feedsNow, rowsNow, writerNow, steppedReader, witnessed, readerNow, noted}
+use Rattle.history.specs.Claim.{refusalDue, ReaderRight}
+use Rattle.history.proofs.Readers.{ReaderOK, readingOf, not-begun, StepRight, reader-right}
 use Rattle.history.proofs.Invariant.{Inv}
+use Rattle.history.proofs.Kept.{Kept, Done, reader-is-idle, still, judged}
 
--- what a call must come to
-pub record Kept (world : World) (role : Role) (after : Outcome) : Type 0 where
-  pub inv : Inv (world .panel .m) (world .panel .k) (noted world role after)
-  pub right : Right (world .panel .m) (world .panel .k) world (noted world role after) role (after .answer)
-
--- nothing has happened, but the readers have seen a moment more
-abbrev pub waited : World → World
-waited world =
-    record {
-      panel = world .panel;
-      slots = world .slots;
-      rows = world .rows;
-      writer = world .writer;
-      readers = λ (n : ℕ). witnessed (world .readers n) (world .rows);
-      acts = world .acts;
-      ended = world .ended;
-    }
-
--- one reader's work and notes are replaced, the others have seen a moment more
-readers-replaced : (m k : ℕ) (rows : Rows) (panel : Record) (reader : ℕ) (work : ReaderWork) (mine others : ℕ → ReaderNotes) → reader < length (panel .readers) → ReaderOK m k rows (mine reader) work → ((n : ℕ) → ReaderOK m k rows (others n) (workOf panel n)) → (n : ℕ) → ReaderOK m k rows (cond (eqb reader n) (mine n) (others n)) (workOf (withWork panel reader work) n)
-readers-replaced m k rows panel reader work mine others inside own rest n = go (eqb reader n) refl
+-- what holds of one reader's new work, and of the others' as it was, holds of each reader's
+each-reader : (P : ℕ → ReaderWork → Type 0) (panel : Record) (reader : ℕ) (work : ReaderWork) → reader < length (panel .readers) → P reader work → ((n : ℕ) → eqb reader n ≡ false → P n (workOf panel n)) → (n : ℕ) → P n (workOf (withWork panel reader work) n)
+each-reader P panel reader work inside own others n = go (eqb reader n) refl
   where
-    go : (b : Bool) → eqb reader n ≡ b → ReaderOK m k rows (cond b (mine n) (others n)) (workOf (withWork panel reader work) n)
+    go : (b : Bool) → eqb reader n ≡ b → P n (workOf (withWork panel reader work) n)
     go true e =
-        subst (λ (x : ℕ). ReaderOK m k rows (mine x) (workOf (withWork panel reader work) x)) (eqb-true reader n e)
-        (subst (λ (w : ReaderWork). ReaderOK m k rows (mine reader) w) (sym (work-replaced panel reader work inside)) own)
-    go false e =
-        subst (λ (w : ReaderWork). ReaderOK m k rows (others n) w) (sym (others-stay panel reader n work (λ same. eqb-false reader n e (sym same)))) (rest n)
+        subst (λ (x : ℕ). P x (workOf (withWork panel reader work) x)) (eqb-true reader n e)
+        (subst (P reader) (sym (work-replaced panel reader work inside)) own)
+    go false e = subst (P n) (sym (others-stay panel reader n work (λ same. eqb-false reader n e (sym same)))) (others n e)
+
+idle-is : (work : ReaderWork) → isReaderIdle work ≡ true → work ≡ Idle
+idle-is Idle e = refl
+idle-is (LookingUp lookup) e = absurd (false≢true e)
+idle-is (Walking walk) e = absurd (false≢true e)
 
 module _ (world : World) (inv : Inv (world .panel .m) (world .panel .k) world) where
   abbrev m : ℕ
@@ -76,40 +66,13 @@ module _ (world : World) (inv : Inv (world .panel .m) (world .panel .k) world) w
   abbrev slots : List ℕ
   slots = world .slots
 
-  pub still : (n : ℕ) → ReaderOK m k (world .rows) (witnessed (world .readers n) (world .rows)) (workOf panel n)
-  still n = reader-on m k (world .rows) (world .rows) (world .readers n) (steady-same (world .rows)) (workOf panel n) (inv .readers n)
+  inside : (reader : ℕ) → reader ≤ 15 → reader < length (panel .readers)
+  inside reader low = omega (arith, inv .all-readers)
 
-  waits : Inv m k (waited world)
-  waits =
-      record {
-        m-is = refl;
-        k-is = refl;
-        fits = inv .fits;
-        all-readers = inv .all-readers;
-        agrees = inv .agrees;
-        work = inv .work;
-        writer = inv .writer;
-        readers = still;
-        commands = inv .commands;
-      }
-
-  -- a refused call
-  pub refused-kept : (role : Role) (n : ℕ) → n ≢ 1 → Kept world role (outcome panel slots (refused n))
-  unfolding noted rowsNow feedsNow storesNow endsNow endedBy endedNow writerNow readerNow either both
-  refused-kept (readerStart reader point) n h = record { inv = waits; right = start-refused n h }
-  refused-kept (readerStep reader) n h = record { inv = waits; right = reader-refused n h }
-  refused-kept (writerStart operation command) n h = record { inv = waits; right = start-refused n h }
-  refused-kept writerStep n h = record { inv = waits; right = writer-refused n h }
-
-  -- a stored answer given again
-  pub again-kept : (operation : Operation) (command : List Sent) (ending : Ending) → Some (Gave (world .ended) ending) command → Kept world (writerStart operation command) (outcome panel slots (givenAgain ending))
-  unfolding noted rowsNow feedsNow storesNow endsNow endedNow writerNow readerNow either both
-  again-kept operation command ending h = record { inv = waits; right = given-again ending h }
-
-  -- a reader's work replaced in its place, with what is then noted of it
-  replaced-inv : (reader : ℕ) (work : ReaderWork) (mine : ℕ → ReaderNotes) → reader ≤ 15 → inRange (length slots) (withWork panel reader work) ≡ true → ReaderOK m k (world .rows) (mine reader) work → Inv m k (record { panel = withWork panel reader work; slots = slots; rows = world .rows; writer = world .writer; readers = λ (n : ℕ). cond (eqb reader n) (mine n) (witnessed (world .readers n) (world .rows)); acts = world .acts; ended = world .ended })
+  -- a reader's work replaced in its place, with what the log and the notes then say of the readers
+  replaced-inv : (reader : ℕ) (work : ReaderWork) (readings : ℕ → Reading) (notes : ℕ → ReaderNotes) → inRange (length slots) (withWork panel reader work) ≡ true → ((n : ℕ) → readings n ≡ readingOf (workOf (withWork panel reader work) n)) → ((n : ℕ) → ReaderOK m k (world .rows) (notes n) (workOf (withWork panel reader work) n)) → Inv m k (record { panel = withWork panel reader work; slots = slots; log = record { writer = world .log .writer; readers = readings; ended = world .log .ended }; rows = world .rows; writer = world .writer; readers = notes; acts = world .acts })
   unfolding withWork withReaders
-  replaced-inv reader work mine low fits own =
+  replaced-inv reader work readings notes fits reading noted-ok =
       record {
         m-is = refl;
         k-is = refl;
@@ -118,70 +81,136 @@ module _ (world : World) (inv : Inv (world .panel .m) (world .panel .k) world) w
         agrees = inv .agrees;
         work = inv .work;
         writer = inv .writer;
-        readers = readers-replaced m k (world .rows) panel reader work mine (λ (n : ℕ). witnessed (world .readers n) (world .rows)) (omega (arith, inv .all-readers)) own still;
+        reading = reading;
+        readers = noted-ok;
         commands = inv .commands;
       }
 
-  start-kept : (reader point : ℕ) (work : ReaderWork) (after : Outcome) → ReaderOK m k (world .rows) (begunReader point) work → start.Began panel slots reader work after → Kept world (readerStart reader point) after
-  unfolding noted rowsNow feedsNow storesNow endsNow endedNow writerNow readerNow either both
-  start-kept reader point work after own (start.refuses n h) = refused-kept (readerStart reader point) n h
-  start-kept reader point work after own (start.begins low fits) =
-      record { inv = replaced-inv reader work (λ (n : ℕ). begunReader point) low fits own; right = start-made }
+  -- a start: of an idle reader nothing is noted, and so of its work before the first step
+  start-inv : (reader : ℕ) (begun : Reading) (work : ReaderWork) → reader ≤ 15 → isReaderIdle (workOf panel reader) ≡ true → workInRange m k work ≡ true → begun ≡ readingOf work → ReaderOK m k (world .rows) noReaderNotes work → Inv m k (noted world (readerStart reader begun) (outcome (withWork panel reader work) slots started))
+  unfolding noted rowsNow feedsNow storesNow endsNow writerNow readerNow logAfter writingAfter readingAfter endedNow either both
+  start-inv reader begun work low free ranged same own =
+      replaced-inv reader work _ _ (with-work-in-range (length slots) panel (inv .fits) reader work ranged)
+      (each-reader (λ (n : ℕ) (w : ReaderWork). cond (eqb reader n) begun (world .log .readers n) ≡ readingOf w) panel reader work (inside reader low) (rw (eq-eqb reader reader refl) same)
+      (λ n e. rw e (inv .reading n)))
+      (each-reader (λ (n : ℕ) (w : ReaderWork). ReaderOK m k (world .rows) (witnessed (world .readers n) (world .rows)) w) panel reader work (inside reader low) (subst (λ (notes : ReaderNotes). ReaderOK m k (world .rows) notes work) (sym nothing-noted) own)
+      (λ n e. still world inv n))
+    where
+      nothing-noted : witnessed (world .readers reader) (world .rows) ≡ noReaderNotes
+      nothing-noted = subst (λ (w : ReaderWork). ReaderOK m k (world .rows) (witnessed (world .readers reader) (world .rows)) w) (idle-is (workOf panel reader) free) (still world inv reader)
 
   -- the start of a lookup
-  pub lookup-kept : (reader point : ℕ) → Kept world (readerStart reader point) (startLookup panel slots reader point)
-  unfolding begunReader searchLeft
-  lookup-kept reader point =
-      start-kept reader point (LookingUp (record { point = point; search = Unread })) _ (record { asked = refl; trail = tt; first = tt; left = omega arith })
-      (start.lookup-began panel slots reader (inv .fits) point)
+  lookup-due : (reader point : ℕ) (frame : List ℕ) → lookupRefusal (length slots) panel reader point ≡ refusalDue (world .log) (StartLookup reader point) frame
+  unfolding lookupRefusal refusalDue refuseIf
+  lookup-due reader point frame = rw (inv .fits, reader-is-idle world inv reader)
+
+  pub lookup-kept : (reader point : ℕ) (frame : List ℕ) → Kept world (StartLookup reader point) frame (startLookup panel slots reader point)
+  unfolding startLookup startReader lookupRefusal roleOf noReaderNotes searchLeft workInRange lookupInRange searchInRange
+  lookup-kept reader point frame =
+      judged world inv (StartLookup reader point) frame (lookupRefusal (length slots) panel reader point) _ (lookup-due reader point frame)
+      (λ allowed.
+      let a = not-refused (not (inRange (length slots) panel)) 1 _ (omega arith) allowed in
+      let b = not-refused (ltb 15 reader) 3 _ (omega arith) (a .1) in
+      let c = not-refused (not (validPoint point)) 2 _ (omega arith) (b .1) in
+      let d = not-refused (not (isReaderIdle (workOf panel reader))) 4 0 (omega arith) (c .1) in
+      record {
+        inv =
+            start-inv reader (lookingUp point) (LookingUp (record { point = point; search = Unread })) (ltb-false 15 reader (b .0)) (not-false _ (d .0))
+            (both-true (validPoint point) true (not-false _ (c .0)) refl)
+            refl
+            (record { trail = tt; first = tt; left = omega arith });
+        carried-out = refl;
+      })
 
   -- the start of a walk
-  pub walk-kept : (reader : ℕ) → Kept world (readerStart reader 0) (startWalk panel slots reader)
-  unfolding begunReader
-  walk-kept reader =
-      start-kept reader 0 (Walking (record { next = 0 })) _ (record { steps = refl; first = λ z. refl; passed = λ some. absurd (omega arith) })
-      (start.walk-began panel slots reader (inv .fits))
+  walk-due : (reader : ℕ) (frame : List ℕ) → walkRefusal (length slots) panel reader ≡ refusalDue (world .log) (StartWalk reader) frame
+  unfolding walkRefusal refusalDue refuseIf
+  walk-due reader frame = rw (inv .fits, reader-is-idle world inv reader)
+
+  pub walk-kept : (reader : ℕ) (frame : List ℕ) → Kept world (StartWalk reader) frame (startWalk panel slots reader)
+  unfolding startWalk startReader walkRefusal roleOf noReaderNotes workInRange
+  walk-kept reader frame =
+      judged world inv (StartWalk reader) frame (walkRefusal (length slots) panel reader) _ (walk-due reader frame)
+      (λ allowed.
+      let a = not-refused (not (inRange (length slots) panel)) 1 _ (omega arith) allowed in
+      let b = not-refused (ltb 15 reader) 3 _ (omega arith) (a .1) in
+      let d = not-refused (not (isReaderIdle (workOf panel reader))) 4 0 (omega arith) (b .1) in
+      record {
+        inv =
+            start-inv reader walking (Walking (record { next = 0 })) (ltb-false 15 reader (b .0)) (not-false _ (d .0))
+            (lt-ltb 0 (panel .m) (omega (arith, sizes-in-range (length slots) panel (inv .fits) .m-low)))
+            refl
+            (record { steps = refl; first = λ z. refl; passed = λ some. absurd (omega arith) });
+        carried-out = refl;
+      })
 
   -- a reader's own step
   module _ (reader : ℕ) (low : reader ≤ 15) (busy : isReaderIdle (workOf panel reader) ≡ false) where
-    abbrev effect : ReaderEffect
-    effect = readerAdvance m (panel .reach) (workOf panel reader) (wordRead slots (readerAccess m (workOf panel reader)))
+    abbrev work : ReaderWork
+    work = workOf panel reader
 
-    right-step : StepRight m k (world .rows) (world .readers reader) effect
+    abbrev effect : ReaderEffect
+    effect = readerAdvance m (panel .reach) work (wordRead slots (readerAccess m work))
+
+    right-step : StepRight m k slots (world .rows) (world .readers reader) work effect
     right-step =
-        reader-right m k (panel .reach) (panel .counts) slots (world .rows) (inv .agrees) (world .readers reader) (workOf panel reader)
+        reader-right m k (panel .reach) (panel .counts) slots (world .rows) (inv .agrees) (world .readers reader) work
         (work-in-range (length slots) panel reader (inv .fits)) busy (inv .readers reader)
 
     effect-fits : inRange (length slots) (withWork panel reader (effect .work)) ≡ true
     effect-fits =
         with-work-in-range (length slots) panel (inv .fits) reader (effect .work)
-        (advances m k (panel .reach) (workOf panel reader) _ (fields (length slots) panel (inv .fits) .reach-fits) (work-in-range (length slots) panel reader (inv .fits)) .in-range)
+        (advances m k (panel .reach) work _ (fields (length slots) panel (inv .fits) .reach-fits) (work-in-range (length slots) panel reader (inv .fits)) .in-range)
 
-    -- what is noted of the readers, where the step was carried out
-    abbrev noted-by : Bool → ℕ → ReaderNotes
-    noted-by gone n = cond (both (not gone) (eqb reader n)) (steppedReader (world .readers n) (effect .answer) (world .rows)) (witnessed (world .readers n) (world .rows))
+    -- what the log and the notes say of the readers, by whether the step was refused and whether it ended the operation
+    abbrev readings-by : Bool → ℕ → Reading
+    readings-by over n = cond (both over (eqb reader n)) idle (world .log .readers n)
 
-    run-inv : Inv m k (record { panel = withWork panel reader (effect .work); slots = slots; rows = world .rows; writer = world .writer; readers = noted-by (isRefused (effect .answer)); acts = world .acts; ended = world .ended })
+    abbrev notes-by : Bool → Bool → ℕ → ReaderNotes
+    notes-by gone over n =
+        cond (both (not gone) (eqb reader n)) (cond over noReaderNotes (steppedReader (world .readers n) (effect .answer) (world .rows)))
+        (witnessed (world .readers n) (world .rows))
+
+    reading-after : (over : Bool) → cond over idle (readingOf work) ≡ readingOf (effect .work) → (n : ℕ) → readings-by over n ≡ readingOf (workOf (withWork panel reader (effect .work)) n)
     unfolding both
-    run-inv =
-        subst (λ (gone : Bool). Inv m k (record { panel = withWork panel reader (effect .work); slots = slots; rows = world .rows; writer = world .writer; readers = noted-by gone; acts = world .acts; ended = world .ended })) (sym (right-step .carried))
-        (replaced-inv reader (effect .work) (λ (n : ℕ). steppedReader (world .readers n) (effect .answer) (world .rows)) low effect-fits (right-step .ok))
+    reading-after true e =
+        each-reader (λ (n : ℕ) (w : ReaderWork). readings-by true n ≡ readingOf w) panel reader (effect .work) (inside reader low) (rw (eq-eqb reader reader refl) e)
+        (λ n other. rw other (inv .reading n))
+    reading-after false e =
+        each-reader (λ (n : ℕ) (w : ReaderWork). readings-by false n ≡ readingOf w) panel reader (effect .work) (inside reader low) (inv .reading reader ∙ e)
+        (λ n other. inv .reading n)
 
-    own-notes : noted-by (isRefused (effect .answer)) reader ≡ steppedReader (world .readers reader) (effect .answer) (world .rows)
+    notes-after : (gone : Bool) → gone ≡ false → (n : ℕ) → ReaderOK m k (world .rows) (notes-by gone (hasEnded (effect .answer)) n) (workOf (withWork panel reader (effect .work)) n)
     unfolding both
-    own-notes = rw (right-step .carried, eq-eqb reader reader refl)
+    notes-after gone e =
+        rw e
+        (each-reader (λ (n : ℕ) (w : ReaderWork). ReaderOK m k (world .rows) (notes-by false (hasEnded (effect .answer)) n) w) panel reader (effect .work) (inside reader low)
+        (rw (eq-eqb reader reader refl) (right-step .ok)) (λ n other. rw other (still world inv n)))
 
-    pub run-kept : Kept world (readerStep reader) (readerRuns panel slots reader (workOf panel reader))
-    unfolding readerRuns afterStep noted rowsNow feedsNow storesNow endsNow endedNow writerNow readerNow either both
-    run-kept =
+    run-done : (frame : List ℕ) → Done world (StepReader reader) frame (readerRuns panel slots reader work)
+    unfolding readerRuns afterStep roleOf noted rowsNow feedsNow storesNow endsNow writerNow readerNow logAfter writingAfter readingAfter endedNow either both
+    run-done frame =
         record {
-          inv = run-inv;
-          right = subst (λ (notes : ReaderNotes). ReaderRight m k (world .rows) notes (effect .answer)) (sym own-notes) (right-step .right);
+          inv =
+              replaced-inv reader (effect .work) (readings-by (hasEnded (effect .answer))) (notes-by (isRefused (effect .answer)) (hasEnded (effect .answer))) effect-fits
+              (reading-after (hasEnded (effect .answer)) (right-step .reading))
+              (notes-after (isRefused (effect .answer)) (right-step .carried));
+          carried-out =
+              subst (λ (reading : Reading). ReaderRight m k slots (world .rows) (steppedReader (world .readers reader) (effect .answer) (world .rows)) reading (effect .answer))
+              (sym (inv .reading reader))
+              (right-step .right);
         }
 
-  by-step : (reader : ℕ) (after : Outcome) → step.Stepped panel slots reader after → Kept world (readerStep reader) after
-  by-step reader after (step.refuses n h) = refused-kept (readerStep reader) n h
-  by-step reader after (step.runs low busy) = run-kept reader low busy
+  step-due : (reader : ℕ) (frame : List ℕ) → stepRefusal (length slots) panel reader ≡ refusalDue (world .log) (StepReader reader) frame
+  unfolding stepRefusal refusalDue refuseIf
+  step-due reader frame = rw (inv .fits, reader-is-idle world inv reader)
 
-  pub step-kept : (reader : ℕ) → Kept world (readerStep reader) (stepReader panel slots reader)
-  step-kept reader = by-step reader (stepReader panel slots reader) (step.stepped panel slots reader (inv .fits))
+  pub step-kept : (reader : ℕ) (frame : List ℕ) → Kept world (StepReader reader) frame (stepReader panel slots reader)
+  unfolding stepReader stepRefusal
+  step-kept reader frame =
+      judged world inv (StepReader reader) frame (stepRefusal (length slots) panel reader) _ (step-due reader frame)
+      (λ allowed.
+      let a = not-refused (not (inRange (length slots) panel)) 1 _ (omega arith) allowed in
+      let b = not-refused (ltb 15 reader) 3 _ (omega arith) (a .1) in
+      let c = not-refused (isReaderIdle (workOf panel reader)) 5 0 (omega arith) (b .1) in
+      run-done reader (ltb-false 15 reader (b .0)) (c .0) frame)

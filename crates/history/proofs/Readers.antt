@@ -19,7 +19,7 @@ use Rattle.record.specs.declared.ReaderWork.{ReaderWork}
 use Rattle.record.specs.declared.ReaderWork.the-variants.{Idle, LookingUp, Walking}
 use Rattle.slot_words.specs.Points.{validPoint}
 use Rattle.work_ranges.specs.WorkRanges.{searchInRange, lookupInRange, workInRange}
-use Rattle.answers.specs.Answers.{walked, walkedLast, isRefused}
+use Rattle.answers.specs.Answers.{walked, walkedLast, hasEnded, isRefused}
 use Rattle.plain_list.specs.PlainList.{Rows, Entry, absent, present, entryOf, lookupEntry, lookupRow, Each, Some, here, there}
 use Rattle.plain_list.proofs.RowLaws.{Steady, steady-same}
 use Rattle.plain_list.proofs.Agreement.{valid-low, Agrees, place-low, shown-row, row-shown, word-row}
@@ -32,8 +32,9 @@ use Rattle.search.proofs.SearchLaws.{searchLeft, some-left, searchedLeft, OneSt
 use Rattle.search.proofs.TrailLaws.{Trail, Knows, search-knows, trail-after}
 use Rattle.record.specs.Idle.{isReaderIdle}
 use Rattle.reader_step.specs.Reader.{readerAccess, ReaderEffect, lookupEnding, lookupEffect, lookupAdvance, walkAdvance, readerAdvance}
-use Rattle.history.specs.World.{ReaderNotes, wordGiven, steppedReader, witnessed}
-use Rattle.history.specs.Claim.{ReportTrue, reports, ReportedOnce, ReaderRight, lookup-underway, lookup-ended, walk-underway, walk-ended}
+use Rattle.history.specs.Log.{Reading, idle, lookingUp, walking}
+use Rattle.history.specs.World.{ReaderNotes, noReaderNotes, wordGiven, steppedReader, witnessed}
+use Rattle.history.specs.Claim.{WordRight, reports, ReportedOnce, ReaderRight, lookup-underway, lookup-ended, walk-underway, walk-ended}
 
 -- the point was on no row at one of these moments
 abbrev pub Missed : ℕ → List Rows → Type 0
@@ -45,7 +46,6 @@ FirstMade Unread steps = Unit {0}
 FirstMade (Probing probe) steps = 1 ≤ steps
 
 pub record LookingOK (m k : ℕ) (rows : Rows) (notes : ReaderNotes) (point : ℕ) (search : Search) : Type 0 where
-  pub asked : point ≡ notes .point
   pub trail : Trail (Missed point (notes .moments)) m k point rows search
   pub first : FirstMade search (notes .steps)
   pub left : notes .steps + searchLeft k search ≤ k + 1
@@ -64,32 +64,30 @@ pub record WalkingOK (rows : Rows) (notes : ReaderNotes) (next : ℕ) : Type 0 w
 
 -- a reader with this work
 abbrev pub ReaderOK : ℕ → ℕ → Rows → ReaderNotes → ReaderWork → Type 0
-ReaderOK m k rows notes Idle = Unit {0}
+ReaderOK m k rows notes Idle = notes ≡ noReaderNotes
 ReaderOK m k rows notes (LookingUp lookup) = LookingOK m k rows notes (lookup .point) (lookup .search)
 ReaderOK m k rows notes (Walking walk) = WalkingOK rows notes (walk .next)
+
+-- what a reader with this work has underway
+abbrev pub readingOf : ReaderWork → Reading
+readingOf Idle = idle
+readingOf (LookingUp lookup) = lookingUp (lookup .point)
+readingOf (Walking walk) = walking
 
 module _ (notes : ReaderNotes) (rows : Rows) where
   pub not-begun : notes .steps ≡ 0 → witnessed notes rows ≡ notes
   unfolding witnessed
   not-begun e = rw (eq-eqb (notes .steps) 0 e)
 
-  pub moment-more : 1 ≤ notes .steps → witnessed notes rows ≡ record { point = notes .point; steps = notes .steps; moments = rows ∷ notes .moments; words = notes .words }
+  pub moment-more : 1 ≤ notes .steps → witnessed notes rows ≡ record { steps = notes .steps; moments = rows ∷ notes .moments; words = notes .words }
   unfolding witnessed
   moment-more h = rw (ne-eqb (notes .steps) 0 (omega arith))
-
-  asked-stays : witnessed notes rows .point ≡ notes .point
-  unfolding witnessed
-  asked-stays = go (eqb (notes .steps) 0)
-    where
-      go : (b : Bool) → cond {A = ReaderNotes} b notes (record { point = notes .point; steps = notes .steps; moments = rows ∷ notes .moments; words = notes .words }) .point ≡ notes .point
-      go true = refl
-      go false = refl
 
   steps-stay : witnessed notes rows .steps ≡ notes .steps
   unfolding witnessed
   steps-stay = go (eqb (notes .steps) 0)
     where
-      go : (b : Bool) → cond {A = ReaderNotes} b notes (record { point = notes .point; steps = notes .steps; moments = rows ∷ notes .moments; words = notes .words }) .steps ≡ notes .steps
+      go : (b : Bool) → cond {A = ReaderNotes} b notes (record { steps = notes .steps; moments = rows ∷ notes .moments; words = notes .words }) .steps ≡ notes .steps
       go true = refl
       go false = refl
 
@@ -98,7 +96,6 @@ module _ (m k : ℕ) (rows after : Rows) (notes : ReaderNotes) (steady : Steady 
   looking-on : (point : ℕ) (search : Search) → LookingOK m k rows notes point search → LookingOK m k after (witnessed notes after) point search
   looking-on point Unread h =
       record {
-        asked = h .asked ∙ sym (asked-stays notes after);
         trail = tt;
         first = tt;
         left = omega (arith, h .left, steps-stay notes after);
@@ -106,7 +103,6 @@ module _ (m k : ℕ) (rows after : Rows) (notes : ReaderNotes) (steady : Steady 
   looking-on point (Probing probe) h =
       subst (λ (n : ReaderNotes). LookingOK m k after n point (Probing probe)) (sym (moment-more notes after (h .first)))
       (record {
-        asked = h .asked;
         trail = trail-after (Missed point (notes .moments)) (Missed point (after ∷ notes .moments)) m k point rows after steady there here (Probing probe) (h .trail);
         first = h .first;
         left = h .left;
@@ -142,7 +138,8 @@ module _ (m k : ℕ) (rows after : Rows) (notes : ReaderNotes) (steady : Steady 
           })
 
   pub reader-on : (work : ReaderWork) → ReaderOK m k rows notes work → ReaderOK m k after (witnessed notes after) work
-  reader-on Idle h = tt
+  unfolding noReaderNotes
+  reader-on Idle h = not-begun notes after (ap (λ (n : ReaderNotes). n .steps) h) ∙ h
   reader-on (LookingUp lookup) h = looking-on (lookup .point) (lookup .search) h
   reader-on (Walking walk) h = walking-on (walk .next) h
 
@@ -151,9 +148,10 @@ some-map f l (here {x = x} p) = here (f x p)
 some-map f l (there {rest = rest} p) = there (some-map f rest p)
 
 -- what a reader's own step comes to: it is in order, and its answer is right
-pub record StepRight (m k : ℕ) (rows : Rows) (notes : ReaderNotes) (effect : ReaderEffect) : Type 0 where
-  pub ok : ReaderOK m k rows (steppedReader notes (effect .answer) rows) (effect .work)
-  pub right : ReaderRight m k rows (steppedReader notes (effect .answer) rows) (effect .answer)
+pub record StepRight (m k : ℕ) (slots : List ℕ) (rows : Rows) (notes : ReaderNotes) (work : ReaderWork) (effect : ReaderEffect) : Type 0 where
+  pub ok : ReaderOK m k rows (cond (hasEnded (effect .answer)) noReaderNotes (steppedReader notes (effect .answer) rows)) (effect .work)
+  pub right : ReaderRight m k slots rows (steppedReader notes (effect .answer) rows) (readingOf work) (effect .answer)
+  pub reading : cond (hasEnded (effect .answer)) idle (readingOf work) ≡ readingOf (effect .work)
   pub carried : isRefused (effect .answer) ≡ false
 
 module _ (m k reach : ℕ) (counts slots : List ℕ) (rows : Rows) (agrees : Agrees m k reach counts slots rows) (notes : ReaderNotes) where
@@ -174,44 +172,49 @@ module _ (m k reach : ℕ) (counts slots : List ℕ) (rows : Rows) (agrees : Agr
     first-made Unread = tt
     first-made (Probing probe) = omega arith
 
-    effect-right : (after : Searched) → Knows (Missed point moments) m k point rows after → OneStep k (searchLeft k search) after → StepRight m k rows notes (lookupEffect point after)
+    abbrev lookup : ReaderWork
+    lookup = LookingUp (record { point = point; search = search })
+
+    effect-right : (after : Searched) → Knows (Missed point moments) m k point rows after → OneStep k (searchLeft k search) after → StepRight m k slots rows notes lookup (lookupEffect point after)
     unfolding lookupEffect lookupEnding steppedReader searchedLeft lookupRow lookupEntry
     effect-right (Going s) known one =
         record {
           ok =
               record {
-                asked = ok .asked;
                 trail = known;
                 first = first-made s;
                 left = omega (arith, ok .left, one .less);
               };
           right = lookup-underway (omega (arith, ok .left, one .less, some-left k s));
+          reading = refl;
           carried = refl;
         }
     effect-right (Answered (Found place)) known one =
         record {
-          ok = tt;
+          ok = refl;
           right =
               lookup-ended _
               (record {
-                one-moment = here (sym (ap (λ (q : ℕ). lookupEntry (entryOf q rows)) (sym (ok .asked)) ∙ ap lookupEntry (known .found)));
+                one-moment = here (sym (ap lookupEntry (known .found)));
                 in-time = omega (arith, ok .left, one .less);
               });
+          reading = refl;
           carried = refl;
         }
     effect-right (Answered Unknown) known one =
         record {
-          ok = tt;
+          ok = refl;
           right =
               lookup-ended _
               (record {
-                one-moment = some-map (λ (then : Rows) e. sym (ap (λ (q : ℕ). lookupEntry (entryOf q then)) (sym (ok .asked)) ∙ ap lookupEntry e)) moments known;
+                one-moment = some-map (λ (then : Rows) e. sym (ap lookupEntry e)) moments known;
                 in-time = omega (arith, ok .left, one .less);
               });
+          reading = refl;
           carried = refl;
         }
 
-    pub lookup-right : StepRight m k rows notes (lookupEffect point (searchAdvance reach point search word))
+    pub lookup-right : StepRight m k slots rows notes lookup (lookupEffect point (searchAdvance reach point search word))
     lookup-right = effect-right (searchAdvance reach point search word) knows (search-step k reach point search word (agrees .reach-high) fits)
 
   -- a walk's step
@@ -222,9 +225,8 @@ module _ (m k reach : ℕ) (counts slots : List ℕ) (rows : Rows) (agrees : Agr
     abbrev read : ℕ
     read = getD slots next 0
 
-    report : ReportTrue rows next read
-    unfolding ReportTrue
-    report some = word-row m k reach counts slots rows agrees next inside some
+    report : WordRight slots rows next read
+    report = record { read = refl; true-when-read = λ some. word-row m k reach counts slots rows agrees next inside some }
 
     -- the row that stands in the slot read is reported now, and no other
     passed-more : (q : ℕ) → 1 ≤ q → Passed q rows next (notes .words) → Passed q rows (next + 1) (read ∷ notes .words)
@@ -302,14 +304,14 @@ module _ (m k reach : ℕ) (counts slots : List ℕ) (rows : Rows) (agrees : Agr
         go (inl missed) = absurd (never-missed q (rows ∷ notes .moments) each missed)
         go (inr p) = all-passed p (ltb (p .place) (next + 1)) refl (p .told)
 
-    report-at : ReportTrue rows (notes .steps + 1 - 1) read
-    report-at = subst (λ (slot : ℕ). ReportTrue rows slot read) (omega (arith, ok .steps)) report
+    report-at : WordRight slots rows (notes .steps + 1 - 1) read
+    report-at = subst (λ (slot : ℕ). WordRight slots rows slot read) (omega (arith, ok .steps)) report
 
-    pub walk-right : StepRight m k rows notes (walkAdvance m walk read)
+    pub walk-right : StepRight m k slots rows notes (Walking walk) (walkAdvance m walk read)
     unfolding walkAdvance steppedReader wordGiven ReportedOnce
     walk-right = go (ltb (next + 1) m) refl
       where
-        go : (more : Bool) → ltb (next + 1) m ≡ more → StepRight m k rows notes (cond more (record { work = Walking (record { next = next + 1 }); answer = walked read }) (record { work = Idle; answer = walkedLast read }))
+        go : (more : Bool) → ltb (next + 1) m ≡ more → StepRight m k slots rows notes (Walking walk) (cond more (record { work = Walking (record { next = next + 1 }); answer = walked read }) (record { work = Idle; answer = walkedLast read }))
         go true e =
             record {
               ok =
@@ -319,14 +321,20 @@ module _ (m k reach : ℕ) (counts slots : List ℕ) (rows : Rows) (agrees : Agr
                     passed = λ begun q low. passed-now q low;
                   };
               right = walk-underway read report-at (omega (arith, ok .steps, ltb-true (next + 1) m e));
+              reading = refl;
               carried = refl;
             }
         go false e =
             let past = ltb-false (next + 1) m e in
-            record { ok = tt; right = walk-ended read report-at (omega (arith, ok .steps)) (once (omega arith)); carried = refl }
+            record {
+              ok = refl;
+              right = walk-ended read report-at (omega (arith, ok .steps)) (once (omega arith));
+              reading = refl;
+              carried = refl;
+            }
 
   -- a step of a reader at work
-  pub reader-right : (work : ReaderWork) → workInRange m k work ≡ true → isReaderIdle work ≡ false → ReaderOK m k rows notes work → StepRight m k rows notes (readerAdvance m reach work (wordRead slots (readerAccess m work)))
+  pub reader-right : (work : ReaderWork) → workInRange m k work ≡ true → isReaderIdle work ≡ false → ReaderOK m k rows notes work → StepRight m k slots rows notes work (readerAdvance m reach work (wordRead slots (readerAccess m work)))
   unfolding workInRange lookupInRange readerAccess readerAdvance lookupAdvance wordRead
   reader-right Idle fits busy ok = absurd (false≢true (sym busy))
   reader-right (LookingUp lookup) fits busy ok =

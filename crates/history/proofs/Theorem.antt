@@ -5,29 +5,31 @@ use mathlib.Core.List.{List, [], _∷_}
 use Rattle.history.specs.declared.Call.{Call}
 use Rattle.history.specs.declared.Call.the-variants.{StartLookup, StartWalk, StepReader, StartPut, StartChange, StartRemoval, StartCommand, StepWriter}
 use Rattle.history.specs.Calls.{applied}
-use Rattle.history.specs.World.{Request, roleOf, World, outcomeOf, next, freshWorld}
+use Rattle.history.specs.Log.{Request}
+use Rattle.history.specs.World.{World, outcomeOf, next, freshWorld}
 use Rattle.history.specs.Claim.{Right, Holds, ArgumentsFit, AllFit, Demand3}
 use Rattle.history.proofs.Invariant.{Inv, world-right, fresh-inv}
-use Rattle.history.proofs.ReaderCalls.{Kept, lookup-kept, walk-kept, step-kept as reader-step-kept}
+use Rattle.history.proofs.Kept.{Kept}
+use Rattle.history.proofs.ReaderCalls.{lookup-kept, walk-kept, step-kept as reader-step-kept}
 use Rattle.history.proofs.WriterStarts.{put-kept, change-kept, removal-kept, command-kept}
 use Rattle.history.proofs.WriterSteps.{step-kept as writer-step-kept}
 
 -- each call, by its definition
-call-kept : (world : World) → Inv (world .panel .m) (world .panel .k) world → (call : Call) (frame : List ℕ) → ArgumentsFit call → Kept world (roleOf call frame) (applied (world .panel) (world .slots) call frame)
-unfolding roleOf applied
-call-kept world inv (StartLookup reader point) frame fit = lookup-kept world inv reader point
-call-kept world inv (StartWalk reader) frame fit = walk-kept world inv reader
-call-kept world inv (StepReader reader) frame fit = reader-step-kept world inv reader
-call-kept world inv (StartPut point value) frame fit = put-kept world inv point value (fit .1)
-call-kept world inv (StartChange point keep flip) frame fit = change-kept world inv point keep flip (fit .2)
-call-kept world inv (StartRemoval point) frame fit = removal-kept world inv point
+call-kept : (world : World) → Inv (world .panel .m) (world .panel .k) world → (call : Call) (frame : List ℕ) → ArgumentsFit call → Kept world call frame (applied (world .panel) (world .slots) call frame)
+unfolding applied
+call-kept world inv (StartLookup reader point) frame fit = lookup-kept world inv reader point frame
+call-kept world inv (StartWalk reader) frame fit = walk-kept world inv reader frame
+call-kept world inv (StepReader reader) frame fit = reader-step-kept world inv reader frame
+call-kept world inv (StartPut point value) frame fit = put-kept world inv point value frame (fit .1)
+call-kept world inv (StartChange point keep flip) frame fit = change-kept world inv point keep flip frame (fit .2)
+call-kept world inv (StartRemoval point) frame fit = removal-kept world inv point frame
 call-kept world inv StartCommand frame fit = command-kept world inv frame
-call-kept world inv StepWriter frame fit = writer-step-kept world inv
+call-kept world inv StepWriter frame fit = writer-step-kept world inv frame
 
 -- what a call leaves, for the m and k of the claim
 record Next (m k : ℕ) (world : World) (request : Request) : Type 0 where
   inv : Inv m k (next world request)
-  right : Right m k world (next world request) (roleOf (request .call) (request .frame)) (outcomeOf world request .answer)
+  right : Right m k world (next world request) (request .call) (request .frame) (outcomeOf world request .answer)
 
 next-kept : (m k : ℕ) (world : World) (request : Request) → Inv m k world → ArgumentsFit (request .call) → Next m k world request
 unfolding next outcomeOf

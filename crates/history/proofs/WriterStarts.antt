@@ -1,46 +1,53 @@
 -- The writer's starts, a command's among them, keep the invariant and are answered right.
-use Prim.Native.Nat.{ℕ, _≤_, _<_}
-use mathlib.Core.Bool.{true, false, false≢true}
-use mathlib.Core.Path.{_≡_, refl, sym, subst}
+use Prim.Native.Nat.{ℕ, zero, suc, _+_, _≤_, _<_}
+use mathlib.Core.Bool.{Bool, true, false, cond, not, false≢true}
+use mathlib.Core.Path.{_≡_, refl, sym, ap, subst, _∙_}
 use mathlib.Core.List.{List, [], _∷_}
 use native.Mathlib.Omega.{arith}
+use borrow.Author.Tests.{eqb-true, not-false}
+use lib.Dec.{eqb}
 use lib.ListN.{length}
 use Rattle.conditions.specs.Conditions.{both, either}
 use Rattle.conditions.proofs.ConditionLaws.{both-true}
+use Rattle.refusal.specs.Judging.{refuseIf, orElse}
+use Rattle.refusal.proofs.Laws.{not-refused}
 use Rattle.record.specs.declared.Record.{Record}
 use Rattle.record.specs.declared.Station.{Station}
 use Rattle.record.specs.declared.Search.the-variants.{Unread}
 use Rattle.record.specs.declared.PutStage.the-variants.{Searching as PutStage·Searching}
-use Rattle.record.specs.declared.Alteration.the-variants.{Given}
+use Rattle.record.specs.declared.Alteration.the-variants.{Given as Alteration·Given}
 use Rattle.record.specs.declared.ChangeStage.the-variants.{Searching as ChangeStage·Searching}
 use Rattle.record.specs.declared.RemovalStage.the-variants.{Searching as RemovalStage·Searching}
 use Rattle.record.specs.declared.WriterWork.{WriterWork}
 use Rattle.record.specs.declared.WriterWork.the-variants.{Idle, Putting, Changing, Removing}
 use Rattle.record.specs.Parts.{workOf, withWriter, stationOf}
+use Rattle.record.specs.Idle.{isWriterIdle}
 use Rattle.slot_words.specs.Points.{validPoint}
 use Rattle.work_ranges.specs.WorkRanges.{searchInRange, putStageInRange, putInRange, alterationInRange, changeStageInRange, changeInRange, removalStageInRange, removalInRange, writerInRange}
 use Rattle.record_ranges.specs.Ranges.{inRange}
-use Rattle.answers.specs.Answers.{started, storedAnswer, Outcome, outcome}
-use Rattle.plain_list.specs.PlainList.{Operation, put, change, removal, Each, here}
+use Rattle.record_ranges.proofs.Laws.{with-writer-in-range}
+use Rattle.answers.specs.Answers.{started, givenAgain, refused, storedAnswer, Outcome, outcome, unlessRefused}
+use Rattle.plain_list.specs.PlainList.{nothing, put, change, removal, Each}
 use Rattle.plain_list.proofs.Agreement.{Tight}
 use Rattle.search.proofs.SearchLaws.{searchLeft}
-use Rattle.record.specs.Idle.{isWriterIdle}
 use Rattle.effects.proofs.EffectLaws.{putSearchLeft, putLeft, changeLeft, removalLeft, writerLeft}
 use Rattle.effects.proofs.StepAgreement.{WorkOK, fedBy}
 use Rattle.change.specs.Change.{masksOf}
-use Rattle.writer.specs.Starts.{startPut, startChange, startRemoval}
+use Rattle.writer.specs.Starts.{startRefusal, startWriter, startPut, startChange, startRemoval}
 use Rattle.writer.proofs.WriterAgreement.{operationOf}
-use Rattle.writer.proofs.CallCases.{Began, refuses-start, begins, began}
 use Rattle.command.specs.declared.Sent.{Sent}
-use Rattle.command.specs.Command.{sentIn, commandedChange, startCommand}
-use Rattle.command.proofs.CommandLaws.{Entered, refuses, repeats, starts, entered, command-in-range}
-use Rattle.history.specs.World.{writerStart, asChange, World, storesNow, endsNow, endedNow, feedsNow, rowsNow, begunWriter, writerNow, readerNow, noted}
-use Rattle.history.specs.Claim.{Gave, start-made, stepBound}
-use Rattle.history.proofs.Commands.{commandOf, IsNext, lastSent, with-command}
-use Rattle.history.proofs.Invariant.{Inv}
-use Rattle.history.proofs.ReaderCalls.{Kept, still, refused-kept, again-kept}
+use Rattle.command.specs.Command.{sentIn, frameRefusal, entryRefusal, commandedChange, changeStarts, numberEqual, numberOther, inTurn, startCommand}
+use Rattle.command.proofs.CommandLaws.{Valid, frame-valid, change-in-range}
+use Rattle.history.specs.declared.Call.{Call}
+use Rattle.history.specs.declared.Call.the-variants.{StartPut, StartChange, StartRemoval, StartCommand}
+use Rattle.history.specs.Log.{Writing, writing, writerStart, asChange, roleOf, Given, writingAfter, readingAfter, endedNow, logAfter}
+use Rattle.history.specs.World.{World, storesNow, endsNow, feedsNow, rowsNow, writerNow, readerNow, noted}
+use Rattle.history.specs.Claim.{operationRefusal, lastEnded, turnRefusal, refusalDue, CommandRight, stepBound}
+use Rattle.history.proofs.Commands.{commandOf, IsNext, heldBy, with-command}
+use Rattle.history.proofs.Invariant.{WriterOK, Inv}
+use Rattle.history.proofs.Kept.{Kept, Done, writer-is-idle, still, waits, refused-kept, done-kept, judged}
 
-pub idle-is : (work : WriterWork) → isWriterIdle work ≡ true → work ≡ Idle
+idle-is : (work : WriterWork) → isWriterIdle work ≡ true → work ≡ Idle
 idle-is Idle e = refl
 idle-is (Putting p) e = absurd (false≢true e)
 idle-is (Changing c) e = absurd (false≢true e)
@@ -60,65 +67,100 @@ module _ (world : World) (inv : Inv (world .panel .m) (world .panel .k) world) w
   slots = world .slots
 
   -- work that may be started: what it is of, how many steps it may take, and that it is in order where the writer was idle
-  record Fresh (operation : Operation) (command : List Sent) (work : WriterWork) : Type 0 where
-    is-operation : operation ≡ operationOf work
-    is-command : command ≡ commandOf work
+  record Fresh (underway : Writing) (work : WriterWork) : Type 0 where
+    is-operation : underway .operation ≡ operationOf work
+    is-command : underway .command ≡ commandOf work
     unfed : fedBy work ≡ 0
-    bounded : writerLeft k (panel .reach) work ≤ stepBound k operation
+    bounded : writerLeft k (panel .reach) work ≤ stepBound k (underway .operation)
     in-order : Tight m k (panel .reach) (world .rows) → WorkOK m k (panel .reach) slots (world .rows) work
     in-turn : Each (IsNext (panel .stations)) (commandOf work)
 
+  -- of a writer without work nothing is noted
+  module _ (idle : isWriterIdle (panel .writer .work) ≡ true) where
+    noted-idle : WriterOK m k (panel .reach) (world .rows) (world .log .writer) (world .writer) Idle
+    noted-idle =
+        subst (λ (w : WriterWork). WriterOK m k (panel .reach) (world .rows) (world .log .writer) (world .writer) w) (idle-is (panel .writer .work) idle) (inv .writer)
+
+    no-steps : world .writer .steps ≡ 0
+    unfolding operationOf stepBound
+    no-steps = let bound = ap (stepBound k) (noted-idle .operation) in omega (arith, noted-idle .left, bound)
+
   -- the writer is given its work
-  begun-kept : (operation : Operation) (command : List Sent) (work : WriterWork) → Fresh operation command work → isWriterIdle (panel .writer .work) ≡ true → inRange (length slots) (withWriter panel work) ≡ true → Kept world (writerStart operation command) (outcome (withWriter panel work) slots started)
-  unfolding withWriter workOf noted rowsNow feedsNow storesNow endsNow endedNow writerNow readerNow begunWriter either both
-  begun-kept operation command work fresh idle fits =
+  begun-inv : (underway : Writing) (work : WriterWork) → Fresh underway work → isWriterIdle (panel .writer .work) ≡ true → inRange (length slots) (withWriter panel work) ≡ true → Inv m k (noted world (writerStart underway) (outcome (withWriter panel work) slots started))
+  unfolding withWriter workOf noted rowsNow feedsNow storesNow endsNow writerNow readerNow logAfter writingAfter readingAfter endedNow either both
+  begun-inv underway work fresh idle fits =
       record {
-        inv =
+        m-is = refl;
+        k-is = refl;
+        fits = fits;
+        all-readers = inv .all-readers;
+        agrees = inv .agrees;
+        work = fresh .in-order (subst (λ (w : WriterWork). WorkOK m k (panel .reach) slots (world .rows) w) (idle-is (panel .writer .work) idle) (inv .work));
+        writer =
             record {
-              m-is = refl;
-              k-is = refl;
-              fits = fits;
-              all-readers = inv .all-readers;
-              agrees = inv .agrees;
-              work = fresh .in-order (subst (λ (w : WriterWork). WorkOK m k (panel .reach) slots (world .rows) w) (idle-is (panel .writer .work) idle) (inv .work));
-              writer = λ busy.
-                  record {
-                    asked = fresh .is-operation;
-                    command = fresh .is-command;
-                    feeds = sym (fresh .unfed);
-                    told = λ fed. absurd (omega (arith, fresh .unfed));
-                    left = omega (arith, fresh .bounded);
-                  };
-              readers = still world inv;
-              commands = with-command (panel .stations) (commandOf (panel .writer .work)) (commandOf work) (world .acts) (world .ended) (inv .commands) (fresh .in-turn);
+              operation = fresh .is-operation;
+              command = fresh .is-command;
+              feeds = noted-idle idle .feeds ∙ sym (fresh .unfed);
+              told = λ fed. absurd (omega (arith, fresh .unfed));
+              left = omega (arith, fresh .bounded, no-steps idle);
             };
-        right = start-made;
+        reading = inv .reading;
+        readers = still world inv;
+        commands = with-command (panel .stations) (commandOf (panel .writer .work)) (commandOf work) (world .acts) (world .log .ended) (inv .commands) (fresh .in-turn);
       }
 
-  start-kept : (operation : Operation) (command : List Sent) (work : WriterWork) (after : Outcome) → Fresh operation command work → Began panel slots work after → Kept world (writerStart operation command) after
-  start-kept operation command work after fresh (refuses-start n h) = refused-kept world inv (writerStart operation command) n h
-  start-kept operation command work after fresh (begins idle fits) = begun-kept operation command work fresh idle fits
+  -- "put, change, remove 1, 2, 4"
+  start-due : (point : ℕ) → startRefusal (length slots) panel point ≡ operationRefusal (world .log) point
+  unfolding startRefusal operationRefusal refuseIf
+  start-due point = rw (inv .fits, writer-is-idle world inv)
 
-  pub put-kept : (point value : ℕ) → value < 4294967296 → Kept world (writerStart (put point value) []) (startPut panel slots point value)
-  unfolding startPut operationOf commandOf writerLeft putLeft putSearchLeft stepBound writerInRange putInRange putStageInRange searchInRange
-  put-kept point value fits =
-      start-kept (put point value) [] (Putting (record { point = point; value = value; stage = PutStage·Searching Unread })) _
-      (record { is-operation = refl; is-command = refl; unfed = refl; bounded = omega arith; in-order = λ tight. ((tt, tight), fits); in-turn = tt })
-      (began panel slots (inv .fits) point _ (λ valid. both-true (validPoint point) true valid refl))
+  start-inv : (point : ℕ) (underway : Writing) (work : WriterWork) → Fresh underway work → (validPoint point ≡ true → writerInRange k work ≡ true) → startRefusal (length slots) panel point ≡ 0 → Inv m k (noted world (writerStart underway) (outcome (withWriter panel work) slots started))
+  unfolding startRefusal
+  start-inv point underway work fresh ranged allowed =
+      let a = not-refused (not (inRange (length slots) panel)) 1 _ (omega arith) allowed in
+      let b = not-refused (not (validPoint point)) 2 _ (omega arith) (a .1) in
+      let c = not-refused (not (isWriterIdle (panel .writer .work))) 4 0 (omega arith) (b .1) in
+      begun-inv underway work fresh (not-false _ (c .0)) (with-writer-in-range (length slots) panel (inv .fits) work (ranged (not-false _ (b .0))))
 
-  pub change-kept : (point keep flip : ℕ) → flip < 4294967296 → Kept world (writerStart (change point keep flip) []) (startChange panel slots point keep flip)
-  unfolding startChange operationOf commandOf masksOf writerLeft changeLeft searchLeft stepBound writerInRange changeInRange alterationInRange changeStageInRange searchInRange
-  change-kept point keep flip fits =
-      start-kept (change point keep flip) [] (Changing (record { point = point; alteration = Given (record { keep = keep; flip = flip }); stage = ChangeStage·Searching Unread })) _
-      (record { is-operation = refl; is-command = refl; unfed = refl; bounded = omega arith; in-order = λ tight. ((tt, tight), fits); in-turn = tt })
-      (began panel slots (inv .fits) point _ (λ valid. both-true (validPoint point) (both true true) valid (both-true true true refl refl)))
+  pub put-kept : (point value : ℕ) (frame : List ℕ) → value < 4294967296 → Kept world (StartPut point value) frame (startPut panel slots point value)
+  unfolding startPut startWriter refusalDue roleOf operationOf commandOf writerLeft putLeft putSearchLeft searchLeft stepBound writerInRange putInRange putStageInRange searchInRange
+  put-kept point value frame fits =
+      judged world inv (StartPut point value) frame (startRefusal (length slots) panel point) _ (start-due point)
+      (λ allowed.
+      record {
+        inv =
+            start-inv point (writing (put point value) []) (Putting (record { point = point; value = value; stage = PutStage·Searching Unread }))
+            (record { is-operation = refl; is-command = refl; unfed = refl; bounded = omega arith; in-order = λ tight. ((tt, tight), fits); in-turn = tt })
+            (λ valid. both-true (validPoint point) true valid refl) allowed;
+        carried-out = refl;
+      })
 
-  pub removal-kept : (point : ℕ) → Kept world (writerStart (removal point) []) (startRemoval panel slots point)
-  unfolding startRemoval operationOf commandOf writerLeft removalLeft searchLeft stepBound writerInRange removalInRange removalStageInRange searchInRange
-  removal-kept point =
-      start-kept (removal point) [] (Removing (record { point = point; stage = RemovalStage·Searching Unread })) _
-      (record { is-operation = refl; is-command = refl; unfed = refl; bounded = omega arith; in-order = λ tight. (tt, tight); in-turn = tt })
-      (began panel slots (inv .fits) point _ (λ valid. both-true (validPoint point) true valid refl))
+  pub change-kept : (point keep flip : ℕ) (frame : List ℕ) → flip < 4294967296 → Kept world (StartChange point keep flip) frame (startChange panel slots point keep flip)
+  unfolding startChange startWriter refusalDue roleOf operationOf commandOf masksOf writerLeft changeLeft searchLeft stepBound writerInRange changeInRange alterationInRange changeStageInRange searchInRange
+  change-kept point keep flip frame fits =
+      judged world inv (StartChange point keep flip) frame (startRefusal (length slots) panel point) _ (start-due point)
+      (λ allowed.
+      record {
+        inv =
+            start-inv point (writing (change point keep flip) [])
+            (Changing (record { point = point; alteration = Alteration·Given (record { keep = keep; flip = flip }); stage = ChangeStage·Searching Unread }))
+            (record { is-operation = refl; is-command = refl; unfed = refl; bounded = omega arith; in-order = λ tight. ((tt, tight), fits); in-turn = tt })
+            (λ valid. both-true (validPoint point) (both true true) valid (both-true true true refl refl)) allowed;
+        carried-out = refl;
+      })
+
+  pub removal-kept : (point : ℕ) (frame : List ℕ) → Kept world (StartRemoval point) frame (startRemoval panel slots point)
+  unfolding startRemoval startWriter refusalDue roleOf operationOf commandOf writerLeft removalLeft searchLeft stepBound writerInRange removalInRange removalStageInRange searchInRange
+  removal-kept point frame =
+      judged world inv (StartRemoval point) frame (startRefusal (length slots) panel point) _ (start-due point)
+      (λ allowed.
+      record {
+        inv =
+            start-inv point (writing (removal point) []) (Removing (record { point = point; stage = RemovalStage·Searching Unread }))
+            (record { is-operation = refl; is-command = refl; unfed = refl; bounded = omega arith; in-order = λ tight. (tt, tight); in-turn = tt })
+            (λ valid. both-true (validPoint point) true valid refl) allowed;
+        carried-out = refl;
+      })
 
   -- a command
   module _ (bytes : List ℕ) where
@@ -128,27 +170,84 @@ module _ (world : World) (inv : Inv (world .panel .m) (world .panel .k) world) w
     abbrev last : Station
     last = stationOf panel (sent .station)
 
-    -- the command repeated is its station's last
-    same-sent : sent .number ≡ last .number → sent .point ≡ last .point → sent .action ≡ last .action → lastSent (sent .station) last ≡ sent
-    same-sent number point action = λ j. record { station = sent .station; number = sym number j; point = sym point j; action = sym action j }
+    -- the station's last command in the record is its last that ended
+    last-is : lastEnded (world .log) sent ≡ heldBy (sent .station) last
+    unfolding lastEnded stationOf
+    last-is = inv .commands .lasts (sent .station)
 
-    by-entry : (after : Outcome) → inRange (length slots) (after .panel) ≡ true → Entered panel slots bytes after → Kept world (writerStart (asChange sent) (sent ∷ [])) after
-    unfolding asChange operationOf commandOf masksOf writerLeft changeLeft searchLeft stepBound stationOf
-    by-entry after fits (refuses {n = n} h) = refused-kept world inv (writerStart (asChange sent) (sent ∷ [])) n (omega arith)
-    by-entry after fits (repeats low number point action) =
-        again-kept world inv (asChange sent) (sent ∷ []) (storedAnswer (last .answer))
-        (here (subst (Gave (world .ended) (storedAnswer (last .answer))) (same-sent number point action) (inv .commands .stored (sent .station) (λ z. omega (arith, number)))))
-    by-entry after fits (starts idle valid low high next) =
-        begun-kept (asChange sent) (sent ∷ []) (commandedChange sent)
-        (record {
-          is-operation = refl;
-          is-command = refl;
-          unfed = refl;
-          bounded = omega arith;
-          in-order = λ tight. ((tt, tight), tt);
-          in-turn = (record { station-low = low; station-high = high; next = next }, tt);
-        })
-        idle fits
+    number-is : (b : Bool) → eqb (sent .number) (last .number) ≡ b → eqb (sent .number) (lastEnded (world .log) sent .sent .number) ≡ b
+    number-is b e = ap (λ (given : Given). eqb (sent .number) (given .sent .number)) last-is ∙ e
 
-    pub command-kept : Kept world (writerStart (asChange sent) (sent ∷ [])) (startCommand panel slots bytes)
-    command-kept = by-entry (startCommand panel slots bytes) (command-in-range panel slots bytes (inv .fits)) (entered panel slots bytes (inv .fits))
+    refused-frame : (n : ℕ) → frameRefusal bytes ≡ suc n → Kept world StartCommand bytes (outcome panel slots (refused (suc n)))
+    unfolding refusalDue orElse
+    refused-frame n e = refused-kept world inv StartCommand bytes n (rw e)
+
+    -- a frame that is taken
+    module _ (taken : frameRefusal bytes ≡ 0) where
+      -- what is due to the command, beside its station's last, by the tests in document 01's order
+      due-by : (equal same next idle : Bool) → eqb (sent .number) (last .number) ≡ equal → both (eqb (sent .point) (last .point)) (eqb (sent .action) (last .action)) ≡ same → eqb (sent .number) (last .number + 1) ≡ next → isWriterIdle (panel .writer .work) ≡ idle → refusalDue (world .log) StartCommand bytes ≡ cond equal (refuseIf (not same) 12 0) (refuseIf (not next) 11 (refuseIf (not idle) 4 0))
+      unfolding refusalDue turnRefusal orElse
+      due-by equal same next idle e f g h = rw (taken, last-is, e, f, g, sym (writer-is-idle world inv) ∙ h)
+
+      valid : Valid sent
+      valid = frame-valid bytes taken
+
+      starts : eqb (sent .number) (last .number + 1) ≡ true → isWriterIdle (panel .writer .work) ≡ true → Inv m k (noted world (writerStart (writing (asChange sent) (sent ∷ []))) (outcome (withWriter panel (commandedChange sent)) slots started))
+      unfolding asChange operationOf commandOf masksOf writerLeft changeLeft searchLeft stepBound stationOf
+      starts next idle =
+          begun-inv (writing (asChange sent) (sent ∷ [])) (commandedChange sent)
+          (record {
+            is-operation = refl;
+            is-command = refl;
+            unfed = refl;
+            bounded = omega arith;
+            in-order = λ tight. ((tt, tight), tt);
+            in-turn = (record { station-low = valid .station-low; station-high = valid .station-high; next = eqb-true (sent .number) (last .number + 1) next }, tt);
+          })
+          idle (with-writer-in-range (length slots) panel (inv .fits) (commandedChange sent) (change-in-range k sent valid))
+
+      by-idle : eqb (sent .number) (last .number) ≡ false → eqb (sent .number) (last .number + 1) ≡ true → (idle : Bool) → isWriterIdle (panel .writer .work) ≡ idle → Kept world StartCommand bytes (unlessRefused (refuseIf (not idle) 4 0) panel slots (outcome (withWriter panel (commandedChange sent)) slots started))
+      unfolding refuseIf unlessRefused roleOf
+      by-idle other next true e =
+          done-kept world inv StartCommand bytes _ (due-by false _ true true other refl next e)
+          (record {
+            inv = starts next e;
+            carried-out = subst (λ (equal : Bool). CommandRight equal (lastEnded (world .log) sent .answer) world (noted world (roleOf StartCommand bytes) (outcome (withWriter panel (commandedChange sent)) slots started)) started) (sym (number-is false other)) refl;
+          })
+      by-idle other next false e = refused-kept world inv StartCommand bytes 3 (due-by false _ true false other refl next e)
+
+      by-next : eqb (sent .number) (last .number) ≡ false → (next : Bool) → eqb (sent .number) (last .number + 1) ≡ next → Kept world StartCommand bytes (cond next (changeStarts panel slots sent) (outcome panel slots (refused 11)))
+      unfolding changeStarts refuseIf
+      by-next other true e = by-idle other e (isWriterIdle (panel .writer .work)) refl
+      by-next other false e = refused-kept world inv StartCommand bytes 10 (due-by false _ false _ other refl e refl)
+
+      -- the stored answer given again
+      again-inv : Inv m k (noted world (roleOf StartCommand bytes) (outcome panel slots (givenAgain (storedAnswer (last .answer)))))
+      unfolding roleOf noted rowsNow feedsNow storesNow endsNow writerNow readerNow logAfter writingAfter readingAfter endedNow either both
+      again-inv = waits world inv
+
+      by-content : eqb (sent .number) (last .number) ≡ true → (same : Bool) → both (eqb (sent .point) (last .point)) (eqb (sent .action) (last .action)) ≡ same → Kept world StartCommand bytes (cond same (outcome panel slots (givenAgain (storedAnswer (last .answer)))) (outcome panel slots (refused 12)))
+      unfolding refuseIf noted
+      by-content equal true e =
+          done-kept world inv StartCommand bytes _ (due-by true true _ _ equal e refl refl)
+          (record {
+            inv = again-inv;
+            carried-out =
+                subst (λ (b : Bool). CommandRight b (lastEnded (world .log) sent .answer) world (noted world (roleOf StartCommand bytes) (outcome panel slots (givenAgain (storedAnswer (last .answer))))) (givenAgain (storedAnswer (last .answer)))) (sym (number-is true equal))
+                (ap (λ (given : Given). givenAgain (given .answer)) (sym last-is), record { record-stays = refl; slots-stay = refl });
+          })
+      by-content equal false e = refused-kept world inv StartCommand bytes 11 (due-by true false _ _ equal e refl refl)
+
+      by-number : (equal : Bool) → eqb (sent .number) (last .number) ≡ equal → Kept world StartCommand bytes (cond equal (numberEqual panel slots sent last) (numberOther panel slots sent last))
+      unfolding numberEqual numberOther
+      by-number true e = by-content e _ refl
+      by-number false e = by-next e _ refl
+
+    by-frame : (n : ℕ) → frameRefusal bytes ≡ n → Kept world StartCommand bytes (unlessRefused n panel slots (inTurn panel slots sent last))
+    unfolding unlessRefused inTurn
+    by-frame zero e = by-number e _ refl
+    by-frame (suc n) e = refused-frame n e
+
+    pub command-kept : Kept world StartCommand bytes (startCommand panel slots bytes)
+    unfolding startCommand entryRefusal refuseIf
+    command-kept = rw (inv .fits) (by-frame (frameRefusal bytes) refl)

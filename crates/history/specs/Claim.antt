@@ -1,37 +1,71 @@
--- Demand 3: the single claim about every whole list of calls, for every m and k in range.
-use Prim.Native.Nat.{ℕ, _+_, _-_, _*_, _≤_, _<_}
-use mathlib.Core.Bool.{cond}
+-- Demand 3: the single claim about every whole list of calls, for every m and k in range. What each call is answered is said by the log of the calls before it, the
+-- plain list and the notes: no definition of a step is cited.
+use Prim.Native.Nat.{ℕ, zero, suc, _+_, _-_, _*_, _≤_, _<_}
+use mathlib.Core.Bool.{Bool, true, false, cond, not}
 use mathlib.Core.List.{List, [], _∷_}
 use mathlib.Core.Logic.{_≢_}
 use mathlib.Core.Path.{_≡_}
-use lib.Dec.{eqb}
+use lib.Dec.{eqb, ltb}
+use lib.ListN.{getD}
 use Rattle.conditions.specs.Conditions.{both}
+use Rattle.refusal.specs.Judging.{refuseIf, orElse}
+use Rattle.slot_words.specs.Points.{validPoint}
 use Rattle.slot_words.specs.Word.{pointOf, valueOf}
 use Rattle.answers.specs.Answers.{Ending, Answer, started, underway, ended, walked, walkedLast, givenAgain, refused}
 use Rattle.plain_list.specs.PlainList.{Rows, absent, present, entryOf, lookupRow, Operation, nothing, put, change, removal, Each, Some, Shows}
 use Rattle.command.specs.declared.Sent.{Sent}
+use Rattle.command.specs.Command.{sentIn, frameRefusal}
 use Rattle.history.specs.declared.Call.{Call}
 use Rattle.history.specs.declared.Call.the-variants.{StartLookup, StartWalk, StepReader, StartPut, StartChange, StartRemoval, StartCommand, StepWriter}
-use Rattle.history.specs.World.{Request, Role, readerStart, readerStep, writerStart, writerStep, roleOf, WriterNotes, ReaderNotes, Given, World, outcomeOf, next, freshWorld}
+use Rattle.history.specs.Log.{Request, Reading, lookingUp, walking, Given, Log, isIdle, isNothing, lastGiven}
+use Rattle.history.specs.World.{WriterNotes, ReaderNotes, World, steppedReader, writerStepped, outcomeOf, next, freshWorld}
 
--- a command's change gave this answer
-unfoldable pub Gave : List Given → Ending → Sent → Type 0
-Gave before ending sent = Some (λ (given : Given). (given .sent ≡ sent) × (given .answer ≡ ending)) before
+-- "put, change, remove 1, 2, 4"
+unfoldable pub operationRefusal : Log → ℕ → ℕ
+operationRefusal log point = refuseIf (not (validPoint point)) 2 (refuseIf (not (isNothing (log .writer .operation))) 4 0)
 
--- a start: "an answer given again is the one its change gave"; no call is refused with 1
-pub data StartRight (before : List Given) (command : List Sent) : Answer → Type 0 where
-  start-made : StartRight before command started
-  given-again : (ending : Ending) → Some (Gave before ending) command → StartRight before command (givenAgain ending)
-  start-refused : (n : ℕ) → n ≢ 1 → StartRight before command (refused n)
+-- the station's last command that ended
+unfoldable pub lastEnded : Log → Sent → Given
+lastEnded log sent = lastGiven (sent .station) (log .ended)
+
+-- "11 or 12 or stored answer, 4": a command beside its station's last one
+unfoldable pub turnRefusal : Log → Sent → Sent → ℕ
+turnRefusal log sent last =
+    cond (eqb (sent .number) (last .number))
+    (refuseIf (not (both (eqb (sent .point) (last .point)) (eqb (sent .action) (last .action)))) 12 0)
+    (refuseIf (not (eqb (sent .number) (last .number + 1))) 11 (refuseIf (not (isNothing (log .writer .operation))) 4 0))
+
+-- the refusal that a call gets, or 0, in the order that document 01 states; 1 is for none of them
+unfoldable pub refusalDue : Log → Call → List ℕ → ℕ
+refusalDue log (StartLookup reader point) frame =
+    refuseIf (ltb 15 reader) 3 (refuseIf (not (validPoint point)) 2 (refuseIf (not (isIdle (log .readers reader))) 4 0))
+refusalDue log (StartWalk reader) frame = refuseIf (ltb 15 reader) 3 (refuseIf (not (isIdle (log .readers reader))) 4 0)
+refusalDue log (StepReader reader) frame = refuseIf (ltb 15 reader) 3 (refuseIf (isIdle (log .readers reader)) 5 0)
+refusalDue log (StartPut point value) frame = operationRefusal log point
+refusalDue log (StartChange point keep flip) frame = operationRefusal log point
+refusalDue log (StartRemoval point) frame = operationRefusal log point
+refusalDue log StartCommand frame = orElse (frameRefusal frame) (turnRefusal log (sentIn frame) (lastEnded log (sentIn frame) .sent))
+refusalDue log StepWriter frame = refuseIf (isNothing (log .writer .operation)) 5 0
+
+-- "All leave slots, buffers and record untouched"
+pub record Untouched (before after : World) : Type 0 where
+  pub record-stays : after .panel ≡ before .panel
+  pub slots-stay : after .slots ≡ before .slots
+
+-- a command that is not refused: "Number equal to the last ..: the stored answer is given again and nothing is altered", "an answer given again is the one its change gave"; or "the change starts"
+abbrev pub CommandRight : Bool → Ending → World → World → Answer → Type 0
+CommandRight true stored before after answer = (answer ≡ givenAgain stored) × Untouched before after
+CommandRight false stored before after answer = answer ≡ started
 
 -- "every lookup that has ended, one that the plain list gives after some call from its first step to its last"; it takes at most k + 1 steps
-pub record LookupRight (k : ℕ) (notes : ReaderNotes) (ending : Ending) : Type 0 where
-  pub one-moment : Some (λ (rows : Rows). ending ≡ lookupRow (notes .point) rows) (notes .moments)
+pub record LookupRight (k point : ℕ) (notes : ReaderNotes) (ending : Ending) : Type 0 where
+  pub one-moment : Some (λ (rows : Rows). ending ≡ lookupRow point rows) (notes .moments)
   pub in-time : notes .steps ≤ k + 1
 
--- a walk: "each report was true when read", a report being a word that is not 0
-unfoldable pub ReportTrue : Rows → ℕ → ℕ → Type 0
-ReportTrue rows slot word = word ≢ 0 → entryOf (pointOf word) rows ≡ present (valueOf word) slot
+-- "each walk step gives the word read"; "each report was true when read", a report being a word that is not 0
+pub record WordRight (slots : List ℕ) (rows : Rows) (slot word : ℕ) : Type 0 where
+  pub read : word ≡ getD slots slot 0
+  pub true-when-read : word ≢ 0 → entryOf (pointOf word) rows ≡ present (valueOf word) slot
 
 -- how many of the words are of this point
 unfoldable pub reports : ℕ → List ℕ → ℕ
@@ -42,13 +76,12 @@ reports point (word ∷ words) = cond (eqb (pointOf word) point) 1 0 + reports p
 unfoldable pub ReportedOnce : ReaderNotes → Type 0
 ReportedOnce notes = (point : ℕ) → Each (λ (rows : Rows). entryOf point rows ≢ absent) (notes .moments) → reports point (notes .words) ≡ 1
 
--- a reader's step has one of these answers, and then this holds; a walk reads "slots 0 to m − 1, one a step, m steps"
-pub data ReaderRight (m k : ℕ) (rows : Rows) (notes : ReaderNotes) : Answer → Type 0 where
-  lookup-underway : notes .steps ≤ k → ReaderRight m k rows notes underway
-  lookup-ended : (ending : Ending) → LookupRight k notes ending → ReaderRight m k rows notes (ended ending)
-  walk-underway : (word : ℕ) → ReportTrue rows (notes .steps - 1) word → notes .steps < m → ReaderRight m k rows notes (walked word)
-  walk-ended : (word : ℕ) → ReportTrue rows (notes .steps - 1) word → notes .steps ≡ m → ReportedOnce notes → ReaderRight m k rows notes (walkedLast word)
-  reader-refused : (n : ℕ) → n ≢ 1 → ReaderRight m k rows notes (refused n)
+-- a reader's step is answered by what the reader has underway, with one of these answers, and then this holds; a walk reads "slots 0 to m − 1, one a step, m steps"
+pub data ReaderRight (m k : ℕ) (slots : List ℕ) (rows : Rows) (notes : ReaderNotes) : Reading → Answer → Type 0 where
+  lookup-underway : {point : ℕ} → notes .steps ≤ k → ReaderRight m k slots rows notes (lookingUp point) underway
+  lookup-ended : {point : ℕ} (ending : Ending) → LookupRight k point notes ending → ReaderRight m k slots rows notes (lookingUp point) (ended ending)
+  walk-underway : (word : ℕ) → WordRight slots rows (notes .steps - 1) word → notes .steps < m → ReaderRight m k slots rows notes walking (walked word)
+  walk-ended : (word : ℕ) → WordRight slots rows (notes .steps - 1) word → notes .steps ≡ m → ReportedOnce notes → ReaderRight m k slots rows notes walking (walkedLast word)
 
 -- a put: "At most 2k + 2 steps"; a change: "At most k + 2"; a removal: "At most k + 3"
 unfoldable pub stepBound : ℕ → Operation → ℕ
@@ -58,23 +91,37 @@ stepBound k (change point keep flip) = k + 2
 stepBound k (removal point) = k + 3
 
 -- "Every put, change or removal that has ended gave the answer above": what the plain list answered when it was fed, once; within the bound
-pub record Ended (k : ℕ) (notes : WriterNotes) (ending : Ending) : Type 0 where
+pub record Ended (k : ℕ) (operation : Operation) (notes : WriterNotes) (ending : Ending) : Type 0 where
   pub as-told : ending ≡ notes .told
   pub fed-once : notes .feeds ≡ 1
-  pub in-time : notes .steps ≤ stepBound k (notes .asked)
+  pub in-time : notes .steps ≤ stepBound k operation
 
 -- the writer's step has one of these answers, and then this holds
-pub data WriterRight (k : ℕ) (notes : WriterNotes) : Answer → Type 0 where
-  writer-underway : notes .steps < stepBound k (notes .asked) → WriterRight k notes underway
-  writer-ended : (ending : Ending) → Ended k notes ending → WriterRight k notes (ended ending)
-  writer-refused : (n : ℕ) → n ≢ 1 → WriterRight k notes (refused n)
+pub data WriterRight (k : ℕ) (operation : Operation) (notes : WriterNotes) : Answer → Type 0 where
+  writer-underway : notes .steps < stepBound k operation → WriterRight k operation notes underway
+  writer-ended : (ending : Ending) → Ended k operation notes ending → WriterRight k operation notes (ended ending)
 
--- a call's answer is right, by what the call is for
-abbrev pub Right : ℕ → ℕ → World → World → Role → Answer → Type 0
-Right m k before after (readerStart reader point) answer = StartRight (before .ended) [] answer
-Right m k before after (readerStep reader) answer = ReaderRight m k (after .rows) (after .readers reader) answer
-Right m k before after (writerStart operation command) answer = StartRight (before .ended) command answer
-Right m k before after writerStep answer = WriterRight k (after .writer) answer
+-- what a call that is not refused comes to; a step is judged with the notes that count it
+abbrev pub CarriedOut : ℕ → ℕ → World → World → Call → List ℕ → Answer → Type 0
+CarriedOut m k before after (StartLookup reader point) frame answer = answer ≡ started
+CarriedOut m k before after (StartWalk reader) frame answer = answer ≡ started
+CarriedOut m k before after (StepReader reader) frame answer =
+    ReaderRight m k (before .slots) (after .rows) (steppedReader (before .readers reader) answer (after .rows)) (before .log .readers reader) answer
+CarriedOut m k before after (StartPut point value) frame answer = answer ≡ started
+CarriedOut m k before after (StartChange point keep flip) frame answer = answer ≡ started
+CarriedOut m k before after (StartRemoval point) frame answer = answer ≡ started
+CarriedOut m k before after StartCommand frame answer =
+    CommandRight (eqb (sentIn frame .number) (lastEnded (before .log) (sentIn frame) .sent .number)) (lastEnded (before .log) (sentIn frame) .answer) before after answer
+CarriedOut m k before after StepWriter frame answer = WriterRight k (before .log .writer .operation) (writerStepped before answer) answer
+
+-- "each call is started, stepped, ended or refused as document 01 says": refused with this number and nothing touched or, where it is 0, carried out
+abbrev pub AnsweredBy : ℕ → ℕ → ℕ → World → World → Call → List ℕ → Answer → Type 0
+AnsweredBy zero m k before after call frame answer = CarriedOut m k before after call frame answer
+AnsweredBy (suc n) m k before after call frame answer = (answer ≡ refused (suc n)) × Untouched before after
+
+-- a call is answered right
+abbrev pub Right : ℕ → ℕ → World → World → Call → List ℕ → Answer → Type 0
+Right m k before after call frame answer = AnsweredBy (refusalDue (before .log) call frame) m k before after call frame answer
 
 -- how many of the commands are of this station and number
 unfoldable pub times : ℕ → ℕ → List Sent → ℕ
@@ -96,13 +143,13 @@ pub record WorldRight (m k : ℕ) (world : World) : Type 0 where
   -- each command acts at most once, whatever its point and action
   pub acts-once : (station number : ℕ) → times station number (world .acts) ≤ 1
   -- and its change ends at most once, so that it gave one answer
-  pub ends-once : (station number : ℕ) → times station number (sents (world .ended)) ≤ 1
+  pub ends-once : (station number : ℕ) → times station number (sents (world .log .ended)) ≤ 1
 
 -- the claim of a list of calls that begins in this world
 abbrev pub Holds : ℕ → ℕ → World → List Request → Type 0
 Holds m k world [] = WorldRight m k world
 Holds m k world (request ∷ rest) =
-    WorldRight m k world × Right m k world (next world request) (roleOf (request .call) (request .frame)) (outcomeOf world request .answer) × Holds m k (next world request) rest
+    WorldRight m k world × Right m k world (next world request) (request .call) (request .frame) (outcomeOf world request .answer) × Holds m k (next world request) rest
 
 -- the claim
 abbrev pub Claim : ℕ → ℕ → List Request → Type 0

@@ -15,6 +15,7 @@ use Rattle.record_ranges.specs.Ranges.{inRange}
 use Rattle.answers.specs.Answers.{Answer, started, underway, ended, walked, walkedLast, givenAgain, gives, refused, hasEnded, isStarted, isRefused, Outcome, outcome, unlessRefused}
 use Rattle.plain_list.specs.PlainList.{Rows, feed, Shows}
 use Rattle.plain_list.proofs.Agreement.{Agrees, shows}
+use Rattle.plain_rows.specs.declared.Operation.the-variants.{Nothing}
 use Rattle.plain_rows.specs.Rows.{rowsOf}
 use Rattle.plain_rows.specs.Fed.{operationOf, Feeding, answered, fedRows}
 use Rattle.plain_rows.proofs.RoomLaws.{fed-by-panel}
@@ -30,7 +31,8 @@ use Rattle.command.specs.Command.{sentOf, sentIn, frameRefusal, entryRefusal, s
 use Rattle.history.specs.declared.Call.{Call}
 use Rattle.history.specs.declared.Call.the-variants.{StartLookup, StartWalk, StepReader, StartPut, StartChange, StartRemoval, StartCommand, StepWriter}
 use Rattle.history.specs.Calls.{applied}
-use Rattle.history.specs.World.{Role, writerStep, roleOf, World, storesNow, endsNow, feedsNow, toldNow, rowsNow, steppedWriter, writerNow, noted, outcomeOf, next, freshWorld}
+use Rattle.history.specs.Log.{Role, writerStep, roleOf, writingAfter, logAfter}
+use Rattle.history.specs.World.{noWriterNotes, World, storesNow, endsNow, feedsNow, toldNow, rowsNow, steppedWriter, writerStepped, writerNow, noted, outcomeOf, next, freshWorld}
 use Rattle.history.proofs.Invariant.{Inv, fresh-inv}
 use Rattle.history.proofs.Theorem.{call-keeps}
 use Rattle.orders.specs.declared.kept_list.Notes.{Notes}
@@ -91,18 +93,30 @@ refused-feeds world (givenAgain ending) e = absurd (false≢true e)
 refused-feeds world (gives values) e = absurd (false≢true e)
 refused-feeds world (refused n) e = refl
 
--- the notes after a step of the writer
-pub stepped-kept : (world : World) (answer : Answer) (notes : Notes) → NotesKept notes (steppedWriter (world .writer) (feedsNow world answer writerStep) (toldNow world)) → NotesKept notes (writerNow world answer writerStep)
-unfolding writerNow steppedWriter
-stepped-kept world answer notes kept = go (isRefused answer) refl
-  where
-    unfed : (feeding : Bool) → feeding ≡ false → NotesKept notes (steppedWriter (world .writer) feeding (toldNow world)) → NotesKept notes (world .writer)
-    unfed true e k = absurd (false≢true (sym e))
-    unfed false e k = record { asked = k .asked; fed = k .fed }
+-- the notes after a step that ends the operation
+ended-not-refused : (answer : Answer) → hasEnded answer ≡ true → isRefused answer ≡ false
+ended-not-refused started e = refl
+ended-not-refused underway e = refl
+ended-not-refused (ended ending) e = refl
+ended-not-refused (walked word) e = refl
+ended-not-refused (walkedLast word) e = refl
+ended-not-refused (givenAgain ending) e = refl
+ended-not-refused (gives values) e = refl
+ended-not-refused (refused n) e = absurd (false≢true e)
 
-    go : (b : Bool) → isRefused answer ≡ b → NotesKept notes (cond b (world .writer) (steppedWriter (world .writer) (feedsNow world answer writerStep) (toldNow world)))
-    go true e = unfed (feedsNow world answer writerStep) (refused-feeds world answer e) kept
-    go false e = kept
+pub ended-kept : (world : World) (answer : Answer) → hasEnded answer ≡ true → NotesKept (record { asked = Nothing; fed = false }) (writingAfter (world .log .writer) writerStep answer) (writerNow world answer writerStep)
+unfolding writingAfter writerNow noWriterNotes
+ended-kept world answer e = rw (ended-not-refused answer e, e) (record { asked = refl; fed = refl })
+
+-- and after any other
+pub stepped-kept : (world : World) (answer : Answer) (notes : Notes) (fed : Bool) → hasEnded answer ≡ false → NotesKept notes (world .log .writer) (world .writer) → fed ≡ either (notes .fed) (feedsNow world answer writerStep) → NotesKept (record { asked = notes .asked; fed = fed }) (writingAfter (world .log .writer) writerStep answer) (writerNow world answer writerStep)
+unfolding writingAfter writerNow writerStepped steppedWriter
+stepped-kept world answer notes fed on kept is = rw on (go (isRefused answer) refl (feedsNow world answer writerStep) (is ∙ fed-more (notes .fed) (feedsNow world answer writerStep) (world .writer .feeds) (kept .fed)) (refused-feeds world answer))
+  where
+    go : (gone : Bool) → isRefused answer ≡ gone → (feeding : Bool) → fed ≡ not (eqb (cond feeding (world .writer .feeds + 1) (world .writer .feeds)) 0) → (isRefused answer ≡ true → feeding ≡ false) → NotesKept (record { asked = notes .asked; fed = fed }) (world .log .writer) (cond gone (world .writer) (steppedWriter (world .writer) feeding (toldNow world)))
+    go true e true f none = absurd (false≢true (sym (none e)))
+    go true e false f none = record { asked = kept .asked; fed = f }
+    go false e feeding f none = record { asked = kept .asked; fed = f }
 
 -- a frame that is not refused begins with 0F, and has the command's fields
 module _ (bytes : List ℕ) (allowed : frameRefusal bytes ≡ 0) where
@@ -210,16 +224,16 @@ module _ (world : World) (reached : Reached world) (before : PanelState) (slots 
 
     -- what the notes keep, as the code's contract has it
     abbrev Noted : Type 0
-    Noted = NotesKept (before .notes) (world .writer) → feeds ≡ feedsNow world answer role → (call ≡ StartCommand → isStarted answer ≡ true → frameRefusal frame ≡ 0) → NotesKept (after .notes) (writerNow world answer role)
+    Noted = NotesKept (before .notes) (world .log .writer) (world .writer) → feeds ≡ feedsNow world answer role → (call ≡ StartCommand → isStarted answer ≡ true → frameRefusal frame ≡ 0) → NotesKept (after .notes) (writingAfter (world .log .writer) role answer) (writerNow world answer role)
 
     pub kept : Noted → Listed words places words′ places′ (after .rows) (cond feeds (fedRows (before .panel .m) (before .panel .k) (operationOf (before .notes .asked)) words places (before .rows) .rows) (rowsOf words places (before .rows))) → Keeps (next world (request call frame)) after slots′ words′ places′
-    unfolding next noted
+    unfolding next noted logAfter
     kept notes listed =
         record {
           panel = ap (λ (o : Outcome). o .panel) same;
           slots-kept = ap (λ (o : Outcome). o .slots) same;
           rows = listed .shown ∙ rows-after ∙ ap (λ (a : Answer). rowsNow world a role) answers;
-          notes = subst (λ (a : Answer). NotesKept (after .notes) (writerNow world a role)) answers (notes (keeps .notes) feeds-now command-frame);
+          notes = subst (λ (a : Answer). NotesKept (after .notes) (writingAfter (world .log .writer) role a) (writerNow world a role)) answers (notes (keeps .notes) feeds-now command-frame);
           words-length = listed .words-length ∙ keeps .words-length ∙ sym whole;
           places-length = listed .places-length ∙ keeps .places-length ∙ sym whole;
         }

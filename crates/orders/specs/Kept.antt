@@ -13,7 +13,8 @@ use Rattle.plain_rows.specs.Rows.{rowsOf}
 use Rattle.plain_rows.specs.Fed.{operationOf}
 use Rattle.history.specs.declared.Call.{Call}
 use Rattle.history.specs.declared.Call.the-variants.{StartLookup, StartWalk, StepReader, StartPut, StartChange, StartRemoval, StartCommand, StepWriter}
-use Rattle.history.specs.World.{Request, Role, WriterNotes, World, storesNow, endsNow, next, freshWorld}
+use Rattle.history.specs.Log.{Request, Writing, Role}
+use Rattle.history.specs.World.{WriterNotes, World, storesNow, endsNow, next, freshWorld}
 use Rattle.history.specs.Claim.{ArgumentsFit}
 use Rattle.orders.specs.declared.kept_list.Notes.{Notes}
 use Rattle.orders.specs.declared.panel_state.PanelState.{PanelState}
@@ -33,9 +34,9 @@ isWriterStep StepWriter = true
 unfoldable pub feedsAfter : Record → Bool → Answer → Role → Bool
 feedsAfter panel fed answer role = either (storesNow panel answer role) (both (endsNow answer role) (not fed))
 
--- the notes keep what the world notes of the writer's operation
-pub record NotesKept (notes : Notes) (writer : WriterNotes) : Type 0 where
-  pub asked : operationOf (notes .asked) ≡ writer .asked
+-- the notes keep what the log and the world's notes have of the writer's operation
+pub record NotesKept (notes : Notes) (underway : Writing) (writer : WriterNotes) : Type 0 where
+  pub asked : operationOf (notes .asked) ≡ underway .operation
   pub fed : notes .fed ≡ not (eqb (writer .feeds) 0)
 
 -- the slices hold these rows, and are as long as before
@@ -49,7 +50,7 @@ pub record Keeps (world : World) (state : PanelState) (slots words places : List
   pub panel : state .panel ≡ world .panel
   pub slots-kept : slots ≡ world .slots
   pub rows : rowsOf words places (state .rows) ≡ world .rows
-  pub notes : NotesKept (state .notes) (world .writer)
+  pub notes : NotesKept (state .notes) (world .log .writer) (world .writer)
   pub words-length : length words ≡ length slots
   pub places-length : length places ≡ length slots
 

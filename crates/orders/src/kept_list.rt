@@ -5,7 +5,7 @@ ghost use mathlib.Core.Bool.{true, cond};
 ghost use mathlib.Core.List.{List};
 ghost use mathlib.Core.Path.{_≡_};
 ghost use Rattle.answers.specs.Answers.{paperCall, isStarted};
-ghost use Rattle.plain_list.specs.PlainList.{change as changeFed, Operation as FedOperation, Told};
+ghost use Rattle.plain_list.specs.PlainList.{change as changeFed};
 ghost use Rattle.plain_rows.specs.Rows.{rowsOf};
 ghost use Rattle.plain_rows.specs.Fed.{operationOf, fedRows};
 ghost use Rattle.effects.specs.Memory.{storesSlot};
@@ -13,7 +13,8 @@ ghost use Rattle.change.specs.Change.{actionMasks};
 ghost use Rattle.command.specs.declared.Sent.{Sent};
 ghost use Rattle.command.specs.Command.{sentIn, frameRefusal};
 ghost use Rattle.history.specs.declared.Call.the-variants.{StartCommand};
-ghost use Rattle.history.specs.World.{World, WriterNotes, asChange, roleOf, storesNow, endsNow, feedsNow, begunWriter, steppedWriter, writerNow};
+ghost use Rattle.history.specs.Log.{Writing, writerStep, asChange, roleOf, writingAfter};
+ghost use Rattle.history.specs.World.{World, WriterNotes, storesNow, endsNow, feedsNow, writerNow};
 ghost use Rattle.orders.specs.Kept.{isWriterStep, feedsAfter, NotesKept, Listed};
 use crate::answer_kinds::has_ended;
 use crate::answer_kinds::is_refused;
@@ -30,7 +31,7 @@ use plain_rows::feed;
 use record::Record;
 use writer::writer_access;
 
-// What is noted of the writer's operation.
+// What is noted of the writer's operation underway; where there is none, nothing is asked or fed.
 pub(crate) struct Notes {
     // the arguments of the call that started it
     pub asked: Operation,
@@ -122,7 +123,7 @@ pub(crate) fn notes_now(
     call: Call,
     frame: &[u8],
 ) -> Notes
-    ensures { λ r. ⌜ ((world : World) → NotesKept notes (world .writer) → feeds ≡ feedsNow world (paperCall answer) (roleOf call (now (frame .entry))) → (call ≡ StartCommand → isStarted (paperCall answer) ≡ true → frameRefusal (now (frame .entry)) ≡ 0) → NotesKept r (writerNow world (paperCall answer) (roleOf call (now (frame .entry))))) ⌝ }
+    ensures { λ r. ⌜ ((world : World) → NotesKept notes (world .log .writer) (world .writer) → feeds ≡ feedsNow world (paperCall answer) (roleOf call (now (frame .entry))) → (call ≡ StartCommand → isStarted (paperCall answer) ≡ true → frameRefusal (now (frame .entry)) ≡ 0) → NotesKept r (writingAfter (world .log .writer) (roleOf call (now (frame .entry))) (paperCall answer)) (writerNow world (paperCall answer) (roleOf call (now (frame .entry))))) ⌝ }
 {
     match call {
         Call::StartLookup {
@@ -150,27 +151,33 @@ pub(crate) fn notes_now(
         ),
         Call::StartRemoval { point } => begun(notes, answer, Operation::Removal { point: point }),
         Call::StartCommand => begun(notes, answer, commanded(frame)),
-        Call::StepWriter => stepped(notes, feeds),
+        Call::StepWriter => stepped(notes, feeds, answer),
     }
 }
 
 // An operation that has been started is noted; a refused start leaves the notes.
 fn begun(notes: Notes, answer: CallAnswer, operation: Operation) -> Notes
-    ensures { λ r. ⌜ ((writer : WriterNotes) (asked : FedOperation) (command : List Sent) → NotesKept notes writer → (isStarted (paperCall answer) ≡ true → operationOf operation ≡ asked) → NotesKept r (cond (isStarted (paperCall answer)) (begunWriter writer asked command) writer)) ⌝ }
+    ensures { λ r. ⌜ ((before underway : Writing) (writer : WriterNotes) → NotesKept notes before writer → (isStarted (paperCall answer) ≡ true → operationOf operation ≡ underway .operation) → NotesKept r (cond (isStarted (paperCall answer)) underway before) writer) ⌝ }
 {
     if is_started(answer) {
         return Notes {
             asked: operation,
-            fed: false,
+            fed: notes.fed,
         };
     }
     notes
 }
 
-// A step of the operation feeds the list or does not.
-fn stepped(notes: Notes, feeds: bool) -> Notes
-    ensures { λ r. ⌜ ((writer : WriterNotes) (told : Told) → NotesKept notes writer → NotesKept r (steppedWriter writer feeds told)) ⌝ }
+// A step of the operation feeds the list or does not; of one that has ended nothing is noted.
+fn stepped(notes: Notes, feeds: bool, answer: CallAnswer) -> Notes
+    ensures { λ r. ⌜ ((world : World) → NotesKept notes (world .log .writer) (world .writer) → feeds ≡ feedsNow world (paperCall answer) writerStep → NotesKept r (writingAfter (world .log .writer) writerStep (paperCall answer)) (writerNow world (paperCall answer) writerStep)) ⌝ }
 {
+    if has_ended(answer) {
+        return Notes {
+            asked: Operation::Nothing,
+            fed: false,
+        };
+    }
     let asked = notes.asked;
     Notes {
         asked: asked,

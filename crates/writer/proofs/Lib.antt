@@ -1,3 +1,2 @@
 pub mod WriterLaws
 pub mod WriterAgreement
-pub mod CallCases

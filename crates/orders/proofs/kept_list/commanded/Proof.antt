@@ -2,7 +2,7 @@
 use mathlib.Core.Path.{sym, ap, _∙_}
 use denote.Ref.{now}
 use Rattle.frame.specs.Answers.{paperRead}
-use Rattle.history.specs.World.{asChange}
+use Rattle.history.specs.Log.{asChange}
 use Rattle.orders.proofs.KeptLaws.{frame-sent, frame-not-refused}
 use borrow.Author.Needs.{needs}
 use Rattle.orders.proofs.kept_list.commanded.Statement.{statement}

@@ -1,12 +1,11 @@
 -- `orders::kept_list::notes_now` meets its contract, call by call.
-use mathlib.Core.Bool.{Bool}
 use mathlib.Core.Path.{refl, sym, ap, subst, _∙_}
 use denote.Ref.{now}
 use Rattle.answers.specs.Answers.{paperCall}
 use Rattle.history.specs.declared.Call.{Call}
-use Rattle.history.specs.World.{roleOf, feedsNow, toldNow, steppedWriter, writerNow}
+use Rattle.history.specs.Log.{roleOf, writingAfter}
+use Rattle.history.specs.World.{World, feedsNow, writerNow}
 use Rattle.orders.specs.Kept.{NotesKept}
-use Rattle.orders.proofs.KeptLaws.{stepped-kept}
 use borrow.Author.Needs.{needs}
 use Rattle.orders.proofs.kept_list.notes_now.Statement.{statement}
 use Rattle.orders.proofs.kept_list.notes_now.Tie as tie
@@ -54,47 +53,47 @@ stepped-requires : tie.Need-stepped-requires
 stepped-requires c κs = search needs
 
 returns : tie.Need-returns
-unfolding writerNow roleOf
+unfolding writingAfter writerNow roleOf
 returns c world kept feeding framed =
     let a = c .before .before .before .args in
-    subst (λ (x : Call). NotesKept (a .notes) (writerNow world (paperCall (a .answer)) (roleOf x (now (a .frame))))) (sym (c .enum-told .given .1)) kept
+    subst (λ (x : Call). NotesKept (a .notes) (writingAfter (world .log .writer) (roleOf x (now (a .frame))) (paperCall (a .answer))) (writerNow world (paperCall (a .answer)) (roleOf x (now (a .frame))))) (sym (c .enum-told .given .1)) kept
 
 returns-2 : tie.Need-returns-2
-unfolding writerNow roleOf
+unfolding writingAfter writerNow roleOf
 returns-2 c world kept feeding framed =
     let a = c .before .before .before .args in
-    subst (λ (x : Call). NotesKept (a .notes) (writerNow world (paperCall (a .answer)) (roleOf x (now (a .frame))))) (sym (c .enum-told2 .given .1)) kept
+    subst (λ (x : Call). NotesKept (a .notes) (writingAfter (world .log .writer) (roleOf x (now (a .frame))) (paperCall (a .answer))) (writerNow world (paperCall (a .answer)) (roleOf x (now (a .frame))))) (sym (c .enum-told2 .given .1)) kept
 
 returns-3 : tie.Need-returns-3
-unfolding writerNow roleOf
+unfolding writingAfter writerNow roleOf
 returns-3 c world kept feeding framed =
     let a = c .before .before .before .args in
-    subst (λ (x : Call). NotesKept (a .notes) (writerNow world (paperCall (a .answer)) (roleOf x (now (a .frame))))) (sym (c .enum-told3 .given .1)) kept
+    subst (λ (x : Call). NotesKept (a .notes) (writingAfter (world .log .writer) (roleOf x (now (a .frame))) (paperCall (a .answer))) (writerNow world (paperCall (a .answer)) (roleOf x (now (a .frame))))) (sym (c .enum-told3 .given .1)) kept
 
 returns-4 : tie.Need-returns-4
-unfolding writerNow roleOf
+unfolding writingAfter writerNow roleOf
 returns-4 c world kept feeding framed =
     let a = c .before .before .before .before .before .args in
-    subst (λ (x : Call). NotesKept (c .begun .result) (writerNow world (paperCall (a .answer)) (roleOf x (now (a .frame))))) (sym (c .before .before .call .given .1)) (c .begun .ensures (world .writer) _ _ kept (λ s. refl))
+    subst (λ (x : Call). NotesKept (c .begun .result) (writingAfter (world .log .writer) (roleOf x (now (a .frame))) (paperCall (a .answer))) (writerNow world (paperCall (a .answer)) (roleOf x (now (a .frame))))) (sym (c .before .before .call .given .1)) (c .begun .ensures (world .log .writer) _ (world .writer) kept (λ s. refl))
 
 returns-5 : tie.Need-returns-5
-unfolding writerNow roleOf
+unfolding writingAfter writerNow roleOf
 returns-5 c world kept feeding framed =
     let a = c .before .before .before .before .before .args in
-    subst (λ (x : Call). NotesKept (c .begun2 .result) (writerNow world (paperCall (a .answer)) (roleOf x (now (a .frame))))) (sym (c .before .before .call2 .given .1)) (c .begun2 .ensures (world .writer) _ _ kept (λ s. refl))
+    subst (λ (x : Call). NotesKept (c .begun2 .result) (writingAfter (world .log .writer) (roleOf x (now (a .frame))) (paperCall (a .answer))) (writerNow world (paperCall (a .answer)) (roleOf x (now (a .frame))))) (sym (c .before .before .call2 .given .1)) (c .begun2 .ensures (world .log .writer) _ (world .writer) kept (λ s. refl))
 
 returns-6 : tie.Need-returns-6
-unfolding writerNow roleOf
+unfolding writingAfter writerNow roleOf
 returns-6 c world kept feeding framed =
     let a = c .before .before .before .before .before .args in
-    subst (λ (x : Call). NotesKept (c .begun3 .result) (writerNow world (paperCall (a .answer)) (roleOf x (now (a .frame))))) (sym (c .before .before .call3 .given .1)) (c .begun3 .ensures (world .writer) _ _ kept (λ s. refl))
+    subst (λ (x : Call). NotesKept (c .begun3 .result) (writingAfter (world .log .writer) (roleOf x (now (a .frame))) (paperCall (a .answer))) (writerNow world (paperCall (a .answer)) (roleOf x (now (a .frame))))) (sym (c .before .before .call3 .given .1)) (c .begun3 .ensures (world .log .writer) _ (world .writer) kept (λ s. refl))
 
 returns-7 : tie.Need-returns-7
-unfolding writerNow roleOf
+unfolding writingAfter writerNow roleOf
 returns-7 c world kept feeding framed =
     let a = c .before .before .before .before .before .args in
     let e = c .before .before .enum-told4 .given .1 in
-    subst (λ (x : Call). NotesKept (c .begun4 .result) (writerNow world (paperCall (a .answer)) (roleOf x (now (a .frame))))) (sym e) (c .begun4 .ensures (world .writer) _ _ kept (λ s. c .before .commanded .ensures (framed e s)))
+    subst (λ (x : Call). NotesKept (c .begun4 .result) (writingAfter (world .log .writer) (roleOf x (now (a .frame))) (paperCall (a .answer))) (writerNow world (paperCall (a .answer)) (roleOf x (now (a .frame))))) (sym e) (c .begun4 .ensures (world .log .writer) _ (world .writer) kept (λ s. c .before .commanded .ensures (framed e s)))
 
 returns-8 : tie.Need-returns-8
 unfolding roleOf
@@ -102,9 +101,8 @@ returns-8 c world kept feeding framed =
     let a = c .before .before .before .before .args in
     let e = c .before .enum-told5 .given .1 in
     let feeds = feeding ∙ ap (λ (x : Call). feedsNow world (paperCall (a .answer)) (roleOf x (now (a .frame)))) e in
-    subst (λ (x : Call). NotesKept (c .stepped .result) (writerNow world (paperCall (a .answer)) (roleOf x (now (a .frame))))) (sym e)
-    (stepped-kept world (paperCall (a .answer)) (c .stepped .result)
-    (subst (λ (b : Bool). NotesKept (c .stepped .result) (steppedWriter (world .writer) b (toldNow world))) feeds (c .stepped .ensures (world .writer) (toldNow world) kept)))
+    subst (λ (x : Call). NotesKept (c .stepped .result) (writingAfter (world .log .writer) (roleOf x (now (a .frame))) (paperCall (a .answer))) (writerNow world (paperCall (a .answer)) (roleOf x (now (a .frame))))) (sym e)
+    (c .stepped .ensures world kept feeds)
 
 pub notes-now-spec : {M : Type 1} → statement M
 notes-now-spec =

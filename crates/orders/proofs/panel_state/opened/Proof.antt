@@ -2,12 +2,13 @@
 use mathlib.Core.Path.{refl, sym, _∙_}
 use lib.ListN.{length-replicate}
 use Rattle.plain_rows.specs.Rows.{rowsOf}
-use Rattle.history.specs.World.{freshWorld}
+use Rattle.history.specs.Log.{freshLog}
+use Rattle.history.specs.World.{noWriterNotes, freshWorld}
 use Rattle.orders.proofs.panel_state.opened.Statement.{statement}
 use Rattle.orders.proofs.panel_state.opened.Tie as tie
 
 returns : tie.Need-returns
-unfolding freshWorld rowsOf
+unfolding freshWorld freshLog noWriterNotes rowsOf
 returns c m k words places fresh in-words in-places =
     record {
       panel = fresh;

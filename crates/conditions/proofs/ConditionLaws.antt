@@ -1,7 +1,7 @@
--- What joined conditions and ranges say.
+-- What joined conditions, choices and ranges say.
 use Prim.Native.Nat.{ℕ, _≤_}
 use mathlib.Core.Path.{_≡_, refl}
-use mathlib.Core.Bool.{Bool, true, false, false≢true}
+use mathlib.Core.Bool.{Bool, true, false, cond, false≢true}
 use borrow.Author.Tests.{leb-true, le-leb}
 use lib.Dec.{leb}
 use Rattle.conditions.specs.Conditions.{both, within}
@@ -31,3 +31,8 @@ within-high low x high e = leb-true x high (both-right (leb low x) (leb x high) 
 pub is-within : (low x high : ℕ) → low ≤ x → x ≤ high → within low x high ≡ true
 unfolding within
 is-within low x high p q = both-true (leb low x) (leb x high) (le-leb low x p) (le-leb x high q)
+
+-- what holds of each of two values where it is the one chosen
+pub cond-holds : {A : Type 0} (P : A → Type 0) (test : Bool) (x y : A) → (test ≡ true → P x) → (test ≡ false → P y) → P (cond test x y)
+cond-holds P true x y first second = first refl
+cond-holds P false x y first second = second refl

@@ -52,11 +52,6 @@ abbrev closed : WriterNotes → Progress → WriterNotes
 closed notes continues = notes
 closed notes (finishes ending) = noWriterNotes
 
--- the step is the operation's last
-abbrev isLast : Progress → Bool
-isLast continues = false
-isLast (finishes ending) = true
-
 -- the world after it, by whether it feeds the list and stores a slot
 abbrev steppedWorld : World → Record → List ℕ → Progress → Bool → Bool → World
 steppedWorld world panel slots progress feeding storing =
@@ -70,35 +65,18 @@ steppedWorld world panel slots progress feeding storing =
       acts = cond storing (world .log .writer .command ++ world .acts) (world .acts);
     }
 
-module _ (world : World) (progress : Progress) (stores none : Bool) (storing : storesSlot (writerAccess (world .panel) (world .panel .writer .work)) ≡ stores) (unfed : eqb (world .writer .feeds) 0 ≡ none) where
-  abbrev feeding : Bool
-  feeding = either stores (both (isLast progress) none)
-
-  ends-as : (p : Progress) → endsNow (stepAnswer p) writerStep ≡ isLast p
-  unfolding endsNow
-  ends-as continues = refl
-  ends-as (finishes ending) = refl
-
-  stores-as : (p : Progress) → storesNow (world .panel) (stepAnswer p) writerStep ≡ stores
-  unfolding storesNow both
-  stores-as continues = storing
-  stores-as (finishes ending) = storing
-
-  feeds-as : feedsNow world (stepAnswer progress) writerStep ≡ feeding
-  unfolding feedsNow
-  feeds-as = rw (stores-as progress, ends-as progress, unfed)
-
+module _ (world : World) (progress : Progress) (stores feeding : Bool) (storing : storesSlot (writerAccess (world .panel) (world .panel .writer .work)) ≡ stores) (feeds : feedsNow world (stepAnswer progress) writerStep ≡ feeding) where
   stepped-as : writerStepped world (stepAnswer progress) ≡ steppedWriter (world .writer) feeding (toldNow world)
   unfolding writerStepped
-  stepped-as = rw feeds-as
+  stepped-as = rw feeds
 
   noted-as : (panel : Record) (slots : List ℕ) → noted world writerStep (outcome panel slots (stepAnswer progress)) ≡ steppedWorld world panel slots progress feeding stores
-  unfolding noted rowsNow writerNow writerStepped readerNow logAfter writingAfter readingAfter endedNow endedBy
-  noted-as panel slots = go progress feeds-as
+  unfolding noted rowsNow storesNow writerNow writerStepped readerNow logAfter writingAfter readingAfter endedNow endedBy both
+  noted-as panel slots = go progress feeds
     where
       go : (p : Progress) → feedsNow world (stepAnswer p) writerStep ≡ feeding → noted world writerStep (outcome panel slots (stepAnswer p)) ≡ steppedWorld world panel slots p feeding stores
-      go continues e = rw (e, stores-as continues)
-      go (finishes ending) e = rw (e, stores-as (finishes ending))
+      go continues e = rw (e, storing)
+      go (finishes ending) e = rw (e, storing)
 
 module _ (world : World) (inv : Inv (world .panel .m) (world .panel .k) world) where
   abbrev m : ℕ
@@ -211,21 +189,43 @@ module _ (world : World) (inv : Inv (world .panel .m) (world .panel .k) world) w
     left-after = omega (arith, noted-ok .left, less)
 
     -- a step that was carried out: from what is shown of its world to what is asked of it
-    carried-out : (progress : Progress) → effect .progress ≡ progress → (stores none : Bool) → storesSlot access ≡ stores → eqb (notes .feeds) 0 ≡ none → Inv m k (steppedWorld world (withWriter after (effect .work)) (slotsAfter slots access) progress (either stores (both (isLast progress) none)) stores) → WriterRight k (underway .operation) (steppedWriter notes (either stores (both (isLast progress) none)) (toldNow world)) (stepAnswer progress) → Done world StepWriter frame (writerRuns panel slots work)
+    carried-out : (progress : Progress) → effect .progress ≡ progress → (stores feeding : Bool) → storesSlot access ≡ stores → feedsNow world (stepAnswer progress) writerStep ≡ feeding → Inv m k (steppedWorld world (withWriter after (effect .work)) (slotsAfter slots access) progress feeding stores) → WriterRight k (underway .operation) (steppedWriter notes feeding (toldNow world)) (stepAnswer progress) → Done world StepWriter frame (writerRuns panel slots work)
     unfolding writerRuns afterStep roleOf
-    carried-out progress e stores none f h holds right =
-        let same = ap (λ (p : Progress). noted world writerStep (outcome (withWriter after (effect .work)) (slotsAfter slots access) (stepAnswer p))) e ∙ noted-as world progress stores none f h (withWriter after (effect .work)) (slotsAfter slots access) in
+    carried-out progress e stores feeding f h holds right =
+        let same = ap (λ (p : Progress). noted world writerStep (outcome (withWriter after (effect .work)) (slotsAfter slots access) (stepAnswer p))) e ∙ noted-as world progress stores feeding f h (withWriter after (effect .work)) (slotsAfter slots access) in
         record {
           inv = subst (Inv m k) (sym same) holds;
           carried-out =
               subst (λ (p : Progress). WriterRight k (underway .operation) (writerStepped world (stepAnswer p)) (stepAnswer p)) (sym e)
-              (subst (λ (n : WriterNotes). WriterRight k (underway .operation) n (stepAnswer progress)) (sym (stepped-as world progress stores none f h)) right);
+              (subst (λ (n : WriterNotes). WriterRight k (underway .operation) n (stepAnswer progress)) (sym (stepped-as world progress stores feeding f h)) right);
         }
 
+    -- "fed whole at its step that stores the slot": a step that stores none and is not the last feeds nothing
+    feeds-not-yet : storesSlot access ≡ false → feedsNow world (stepAnswer continues) writerStep ≡ false
+    unfolding feedsNow storesNow endsNow either both
+    feeds-not-yet stores = rw stores
+
+    feeds-storing : storesSlot access ≡ true → feedsNow world (stepAnswer continues) writerStep ≡ true
+    unfolding feedsNow storesNow either both
+    feeds-storing stores = rw stores
+
+    -- "or at its last if it stores none", where it has not fed the list before
+    feeds-at-last : (ending : Ending) → eqb (notes .feeds) 0 ≡ true → feedsNow world (stepAnswer (finishes ending)) writerStep ≡ true
+    unfolding feedsNow storesNow endsNow either both
+    feeds-at-last ending none = rw none (always (storesSlot access))
+      where
+        always : (b : Bool) → either b true ≡ true
+        always true = refl
+        always false = refl
+
+    feeds-no-more : (ending : Ending) → storesSlot access ≡ false → eqb (notes .feeds) 0 ≡ false → feedsNow world (stepAnswer (finishes ending)) writerStep ≡ false
+    unfolding feedsNow storesNow endsNow either both
+    feeds-no-more ending stores some = rw (stores, some)
+
     on-done : storesSlot access ≡ false → fedBy work ≡ 0 → fedBy (effect .work) ≡ 0 → begun (effect .work) ≡ begun work → isWriterIdle (effect .work) ≡ false → effect .progress ≡ continues → after .stations ≡ panel .stations → After panel slots access effect (world .rows) → Done world StepWriter frame (writerRuns panel slots work)
-    unfolding steppedWriter either both
+    unfolding steppedWriter
     on-done stores unfed still-unfed same on goes stay then =
-        carried-out continues goes false (eqb (notes .feeds) 0) stores refl
+        carried-out continues goes false false stores (feeds-not-yet stores)
         (stepped-inv (world .rows) underway (steppedWriter notes false (toldNow world)) (world .acts) (world .log .ended) (steady-same (world .rows)) then
         (record {
           operation = same-operation same;
@@ -244,10 +244,10 @@ module _ (world : World) (inv : Inv (world .panel .m) (world .panel .k) world) w
     once-fed unfed = omega (arith, noted-ok .feeds)
 
     empties-done : storesSlot access ≡ true → fedBy work ≡ 0 → fedBy (effect .work) ≡ 1 → begun (effect .work) ≡ begun work → isWriterIdle (effect .work) ≡ false → effect .progress ≡ continues → toldNow world .answer ≡ removed (largestIndex m k (toldNow world .rows)) → Steady (world .rows) (toldNow world .rows) → after .stations ≡ panel .stations → After panel slots access effect (toldNow world .rows) → Done world StepWriter frame (writerRuns panel slots work)
-    unfolding steppedWriter either both
+    unfolding steppedWriter
     empties-done stores unfed fed same on goes tells steady stay then =
         let none = same-command same ∙ fed-no-command (effect .work) fed in
-        carried-out continues goes true true stores (none-fed unfed)
+        carried-out continues goes true true stores (feeds-storing stores)
         (stepped-inv (toldNow world .rows) underway (steppedWriter notes true (toldNow world)) (underway .command ++ world .acts) (world .log .ended) steady then
         (record {
           operation = same-operation same;
@@ -275,28 +275,21 @@ module _ (world : World) (inv : Inv (world .panel .m) (world .panel .k) world) w
         (recorded (panel .stations) (sentBy (change .point) command) (world .acts) (world .log .ended) before stored ending same storing)))
 
     lowers-done : storesSlot access ≡ false → fedBy work ≡ 1 → effect .work ≡ Idle → effect .progress ≡ finishes (removed (largestIndex m k (world .rows))) → after .stations ≡ panel .stations → After panel slots access effect (world .rows) → Done world StepWriter frame (writerRuns panel slots work)
-    unfolding steppedWriter either both
+    unfolding steppedWriter
     lowers-done stores fed idle over stay then =
-        carried-out (finishes (removed (largestIndex m k (world .rows)))) over false false stores (ne-eqb (notes .feeds) 0 (λ z. omega (arith, noted-ok .feeds)))
+        carried-out (finishes (removed (largestIndex m k (world .rows)))) over false false stores (feeds-no-more _ stores (ne-eqb (notes .feeds) 0 (λ z. omega (arith, noted-ok .feeds))))
         (stepped-inv (world .rows) (writing nothing []) noWriterNotes (world .acts) _ (steady-same (world .rows)) then
         (ended-noted (world .rows) idle)
         (ended-commands false (removed (largestIndex m k (world .rows))) idle work refl (no-command (fed-not-command work fed) stay)))
         (writer-ended _ (record { as-told = sym (noted-ok .told fed); fed-once = noted-ok .feeds ∙ fed; in-time = in-time }))
 
-    always : (b : Bool) → either b (both true true) ≡ true
-    unfolding either both
-    always true = refl
-    always false = refl
-
     ends-done : (stores : Bool) → storesSlot access ≡ stores → fedBy work ≡ 0 → effect .work ≡ Idle → effect .progress ≡ finishes (toldNow world .answer) → Steady (world .rows) (toldNow world .rows) → Recorded (panel .stations) (after .stations) (toldNow world .answer) work → After panel slots access effect (toldNow world .rows) → Done world StepWriter frame (writerRuns panel slots work)
     unfolding steppedWriter
     ends-done stores storing unfed idle over steady record-kept then =
-        carried-out (finishes (toldNow world .answer)) over stores true storing (none-fed unfed)
-        (subst (λ (feeding : Bool). Inv m k (steppedWorld world (withWriter after (effect .work)) (slotsAfter slots access) (finishes (toldNow world .answer)) feeding stores)) (sym (always stores))
+        carried-out (finishes (toldNow world .answer)) over stores true storing (feeds-at-last _ (none-fed unfed))
         (stepped-inv (toldNow world .rows) (writing nothing []) noWriterNotes _ _ steady then
-        (ended-noted (toldNow world .rows) idle) (ended-commands stores (toldNow world .answer) idle work refl record-kept)))
-        (subst (λ (feeding : Bool). WriterRight k (underway .operation) (steppedWriter notes feeding (toldNow world)) (stepAnswer (finishes (toldNow world .answer)))) (sym (always stores))
-        (writer-ended (toldNow world .answer) (record { as-told = refl; fed-once = once-fed unfed; in-time = in-time })))
+        (ended-noted (toldNow world .rows) idle) (ended-commands stores (toldNow world .answer) idle work refl record-kept))
+        (writer-ended (toldNow world .answer) (record { as-told = refl; fed-once = once-fed unfed; in-time = in-time }))
 
     by-cases : StepOK panel slots access effect (world .rows) (toldNow world) work → Done world StepWriter frame (writerRuns panel slots work)
     by-cases (goes-on stores unfed still same on goes stay then) = on-done stores unfed still same on goes stay then

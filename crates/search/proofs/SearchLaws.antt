@@ -1,13 +1,13 @@
 -- Laws of a search: each step goes on in range, finds a place in range or ends, and takes one of the steps that are left;
 -- a step reads one of the slots lent.
 use Prim.Native.Nat.{ℕ, _+_, _-_, _≤_, _<_}
-use mathlib.Core.Path.{_≡_, refl, sym, subst}
-use mathlib.Core.Bool.{Bool, true, false, cond}
+use mathlib.Core.Path.{_≡_, refl}
+use mathlib.Core.Bool.{Bool, true}
 use native.Mathlib.Omega.{arith}
 use borrow.Author.Tests.{ltb-true, leb-true, le-leb, eqb-false}
-use lib.Dec.{ltb, leb, eqb}
+use lib.Dec.{leb}
 use Rattle.conditions.specs.Conditions.{within}
-use Rattle.conditions.proofs.ConditionLaws.{both-left, both-right, both-true, within-low, within-high, is-within}
+use Rattle.conditions.proofs.ConditionLaws.{both-left, both-right, both-true, within-low, within-high, is-within, cond-holds}
 use Rattle.hash.proofs.Laws.{position-below}
 use Rattle.record.specs.declared.Probe.{Probe}
 use Rattle.record.specs.declared.Search.{Search}
@@ -19,8 +19,7 @@ use Rattle.search.specs.declared.Searched.{Searched}
 use Rattle.search.specs.declared.Searched.the-variants.{Going, Answered}
 use Rattle.search.specs.declared.SearchAnswer.{SearchAnswer}
 use Rattle.search.specs.declared.SearchAnswer.the-variants.{Found, Unknown}
-use Rattle.slot_words.specs.Word.{pointOf, valueOf}
-use Rattle.search.specs.Search.{searchAccess, firstProbe, nextProbe, probeAdvance, searchAdvance}
+use Rattle.search.specs.Search.{searchAccess, firstProbe, nextProbe, holdsPoint, probeAdvance, searchAdvance}
 
 -- the steps that are left of a search, at most
 unfoldable pub searchLeft : ℕ → Search → ℕ
@@ -72,44 +71,29 @@ pub record OneStep (k left : ℕ) (after : Searched) : Type 0 where
 
 pub first-step : (k reach : ℕ) → reach ≤ k → OneStep k (reach + 1) (firstProbe reach)
 unfolding firstProbe searchedInRange answerInRange searchedLeft searchLeft
-first-step k reach h = go (eqb reach 0) refl
-  where
-    go : (b : Bool) → eqb reach 0 ≡ b → OneStep k (reach + 1) (cond b (Answered Unknown) (Going (Probing (record { reach = reach; next = 1 }))))
-    go true e = record { fits = refl; less = omega arith }
-    go false e = let some = eqb-false reach 0 e in record { fits = probing k reach 1 h (omega arith) (omega arith); less = omega arith }
+first-step k reach h =
+    cond-holds (OneStep k (reach + 1)) _ _ _ (λ none. record { fits = refl; less = omega arith })
+    (λ some. let low = eqb-false reach 0 some in record { fits = probing k reach 1 h (omega arith) (omega arith); less = omega arith })
 
 next-step : (k : ℕ) (probe : Probe) → searchInRange k (Probing probe) ≡ true → OneStep k (probe .reach - probe .next + 1) (nextProbe probe)
 unfolding nextProbe searchedInRange answerInRange searchedLeft searchLeft
-next-step k probe h = go (ltb (probe .next) (probe .reach)) refl
-  where
-    go : (b : Bool) → ltb (probe .next) (probe .reach) ≡ b → OneStep k (probe .reach - probe .next + 1) (cond b (Going (Probing (record { reach = probe .reach; next = probe .next + 1 }))) (Answered Unknown))
-    go true e =
-        let below = ltb-true (probe .next) (probe .reach) e in
-        record { fits = probing k (probe .reach) (probe .next + 1) (reach-high k probe h) (omega arith) (omega arith); less = omega arith }
-    go false e = record { fits = refl; less = omega arith }
-
--- a position that shows the point ends the search there
-pub probe-hits : (point : ℕ) (probe : Probe) (word : ℕ) → eqb (pointOf word) point ≡ true → probeAdvance point probe word ≡ Answered (Found (record { index = probe .next; value = valueOf word }))
-unfolding probeAdvance
-probe-hits point probe word e = rw e
-
--- any other leads to the next, an empty one too: "removals leave holes"
-pub probe-misses : (point : ℕ) (probe : Probe) (word : ℕ) → eqb (pointOf word) point ≡ false → probeAdvance point probe word ≡ nextProbe probe
-unfolding probeAdvance
-probe-misses point probe word e = rw e
+next-step k probe h =
+    cond-holds (OneStep k (probe .reach - probe .next + 1)) _ _ _
+    (λ more.
+    let below = ltb-true (probe .next) (probe .reach) more in
+    record { fits = probing k (probe .reach) (probe .next + 1) (reach-high k probe h) (omega arith) (omega arith); less = omega arith })
+    (λ last. record { fits = refl; less = omega arith })
 
 pub probe-step : (k point : ℕ) (probe : Probe) (word : ℕ) → searchInRange k (Probing probe) ≡ true → OneStep k (probe .reach - probe .next + 1) (probeAdvance point probe word)
-unfolding searchedInRange answerInRange searchedLeft
-probe-step k point probe word h = go (eqb (pointOf word) point) refl
-  where
-    go : (b : Bool) → eqb (pointOf word) point ≡ b → OneStep k (probe .reach - probe .next + 1) (probeAdvance point probe word)
-    go true e =
-        subst (OneStep k (probe .reach - probe .next + 1)) (sym (probe-hits point probe word e))
-        (record {
-          fits = is-within 1 (probe .next) k (next-low k probe h) (omega (arith, next-high k probe h, reach-high k probe h));
-          less = omega arith;
-        })
-    go false e = subst (OneStep k (probe .reach - probe .next + 1)) (sym (probe-misses point probe word e)) (next-step k probe h)
+unfolding probeAdvance searchedInRange answerInRange searchedLeft
+probe-step k point probe word h =
+    cond-holds (OneStep k (probe .reach - probe .next + 1)) (holdsPoint point word) _ _
+    (λ hit.
+    record {
+      fits = is-within 1 (probe .next) k (next-low k probe h) (omega (arith, next-high k probe h, reach-high k probe h));
+      less = omega arith;
+    })
+    (λ missed. next-step k probe h)
 
 pub search-step : (k reach point : ℕ) (search : Search) (word : ℕ) → reach ≤ k → searchInRange k search ≡ true → OneStep k (searchLeft k search) (searchAdvance reach point search word)
 unfolding searchAdvance searchLeft

@@ -1,14 +1,14 @@
 -- What a search knows between two of its steps, where the table agrees with a plain list: the point's row is at an index yet to be read, or a fact F that stands for
 -- "not found" (of a reader: the point was absent at one of the lookup's moments; of the writer: it is absent). A step keeps it, and so does every call of the others.
 use Prim.Native.Nat.{ℕ, _+_, _≤_, _<_}
-use mathlib.Core.Bool.{Bool, true, false, cond}
+use mathlib.Core.Bool.{true}
 use mathlib.Core.Path.{_≡_, refl, sym, ap, subst, _∙_}
 use mathlib.Core.Logic.{_⊎_, inl, inr, _≢_}
 use mathlib.Core.List.{List}
 use native.Mathlib.Omega.{arith}
 use borrow.Author.Tests.{eqb-true, eqb-false, ltb-false}
-use lib.Dec.{eqb, ltb}
 use lib.ListN.{getD}
+use Rattle.conditions.proofs.ConditionLaws.{cond-holds}
 use Rattle.hash.specs.Position.{positionOf}
 use Rattle.hash.proofs.Laws.{position-below}
 use Rattle.slot_words.specs.Word.{pointOf, valueOf}
@@ -26,8 +26,8 @@ use Rattle.search.specs.declared.Searched.the-variants.{Going, Answered}
 use Rattle.search.specs.declared.SearchAnswer.{SearchAnswer}
 use Rattle.search.specs.declared.SearchAnswer.the-variants.{Found, Unknown}
 use Rattle.search.specs.Access.{wordRead}
-use Rattle.search.specs.Search.{searchAccess, firstProbe, nextProbe, probeAdvance, searchAdvance}
-use Rattle.search.proofs.SearchLaws.{next-low, probe-hits, probe-misses}
+use Rattle.search.specs.Search.{searchAccess, firstProbe, nextProbe, holdsPoint, probeAdvance, searchAdvance}
+use Rattle.search.proofs.SearchLaws.{next-low}
 
 -- the point's row is at an index between these two
 pub record Ahead (m k q : ℕ) (rows : Rows) (from to : ℕ) : Type 0 where
@@ -83,11 +83,10 @@ module _ (F : Type 0) (m k reach : ℕ) (counts slots : List ℕ) (rows : Rows) 
 
   first-knows : Knows F m k q rows (firstProbe reach)
   unfolding firstProbe
-  first-knows = go (eqb reach 0) refl
-    where
-      go : (b : Bool) → eqb reach 0 ≡ b → Knows F m k q rows (cond b (Answered Unknown) (Going (Probing (record { reach = reach; next = 1 }))))
-      go true e = let z = eqb-true reach 0 e in none-ahead 1 reach (omega arith) (first-ahead (entryOf q rows) refl)
-      go false e = first-ahead (entryOf q rows) refl
+  first-knows =
+      cond-holds (Knows F m k q rows) _ _ _
+      (λ none. let z = eqb-true reach 0 none in none-ahead 1 reach (omega arith) (first-ahead (entryOf q rows) refl))
+      (λ some. first-ahead (entryOf q rows) refl)
 
   abbrev word-of : Probe → ℕ
   word-of probe = getD slots (positionOf m q (probe .next)) 0
@@ -123,24 +122,20 @@ module _ (F : Type 0) (m k reach : ℕ) (counts slots : List ℕ) (rows : Rows) 
 
   next-knows : (probe : Probe) → F ⊎ Ahead m k q rows (probe .next + 1) (probe .reach) → Knows F m k q rows (nextProbe probe)
   unfolding nextProbe
-  next-knows probe ahead = go (ltb (probe .next) (probe .reach)) refl
-    where
-      go : (b : Bool) → ltb (probe .next) (probe .reach) ≡ b → Knows F m k q rows (cond b (Going (Probing (record { reach = probe .reach; next = probe .next + 1 }))) (Answered Unknown))
-      go true e = ahead
-      go false e = let past = ltb-false (probe .next) (probe .reach) e in none-ahead (probe .next + 1) (probe .reach) (omega arith) ahead
+  next-knows probe ahead =
+      cond-holds (Knows F m k q rows) _ _ _ (λ more. ahead)
+      (λ last. let past = ltb-false (probe .next) (probe .reach) last in none-ahead (probe .next + 1) (probe .reach) (omega arith) ahead)
 
+  -- a position that shows the point ends the search there; any other leads to the next, an empty one too: "removals leave holes"
   probe-knows : (probe : Probe) → 1 ≤ probe .next → F ⊎ Ahead m k q rows (probe .next) (probe .reach) → Knows F m k q rows (probeAdvance q probe (word-of probe))
-  probe-knows probe from ahead = go (eqb (pointOf (word-of probe)) q) refl
-    where
-      go : (b : Bool) → eqb (pointOf (word-of probe)) q ≡ b → Knows F m k q rows (probeAdvance q probe (word-of probe))
-      go true e =
-          let inside = position-below m q (probe .next) (agrees .some-slot) in
-          let here = shown-row m k reach counts slots rows agrees q (positionOf m q (probe .next)) low inside (eqb-true (pointOf (word-of probe)) q e) in
-          subst (Knows F m k q rows) (sym (probe-hits q probe (word-of probe) e))
-          (record { found = here; lowest = hit-lowest probe (valueOf (word-of probe)) from here ahead })
-      go false e =
-          subst (Knows F m k q rows) (sym (probe-misses q probe (word-of probe) e))
-          (next-knows probe (passed probe (eqb-false (pointOf (word-of probe)) q e) ahead))
+  unfolding probeAdvance holdsPoint
+  probe-knows probe from ahead =
+      cond-holds (Knows F m k q rows) (holdsPoint q (word-of probe)) _ _
+      (λ hit.
+      let inside = position-below m q (probe .next) (agrees .some-slot) in
+      let here = shown-row m k reach counts slots rows agrees q (positionOf m q (probe .next)) low inside (eqb-true (pointOf (word-of probe)) q hit) in
+      record { found = here; lowest = hit-lowest probe (valueOf (word-of probe)) from here ahead })
+      (λ other. next-knows probe (passed probe (eqb-false (pointOf (word-of probe)) q other) ahead))
 
   -- a search's own step
   pub search-knows : (search : Search) → searchInRange k search ≡ true → Trail F m k q rows search → Knows F m k q rows (searchAdvance reach q search (wordRead slots (searchAccess m q search)))

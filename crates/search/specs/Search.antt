@@ -1,6 +1,6 @@
 -- Document 01, "Steps": a search for a point, as a lookup makes it and as the writer's operations do.
 use Prim.Native.Nat.{ℕ, _+_}
-use mathlib.Core.Bool.{cond}
+use mathlib.Core.Bool.{Bool, cond}
 use lib.Dec.{ltb, eqb}
 use Rattle.hash.specs.Position.{positionOf}
 use Rattle.record.specs.declared.Probe.{Probe}
@@ -28,10 +28,14 @@ nextProbe probe =
     cond (ltb (probe .next) (probe .reach)) (Going (Probing (record { reach = probe .reach; next = probe .next + 1 })))
     (Answered Unknown)
 
+-- "the point's slot"
+unfoldable pub holdsPoint : ℕ → ℕ → Bool
+holdsPoint point word = eqb (pointOf word) point
+
 -- part 3, a position read: "ending on the point's slot with its value"
 unfoldable pub probeAdvance : ℕ → Probe → ℕ → Searched
 probeAdvance point probe word =
-    cond (eqb (pointOf word) point) (Answered (Found (record { index = probe .next; value = valueOf word }))) (nextProbe probe)
+    cond (holdsPoint point word) (Answered (Found (record { index = probe .next; value = valueOf word }))) (nextProbe probe)
 
 -- part 3
 unfoldable pub searchAdvance : ℕ → ℕ → Search → ℕ → Searched

@@ -15,7 +15,7 @@ use Rattle.search.specs.declared.Searched.the-variants.{Going, Answered}
 use Rattle.search.specs.declared.SearchAnswer.{SearchAnswer}
 use Rattle.search.specs.declared.SearchAnswer.the-variants.{Found, Unknown}
 use Rattle.search.specs.Access.{wordRead}
-use Rattle.search.specs.Search.{searchAccess, firstProbe, nextProbe, probeAdvance, searchAdvance}
+use Rattle.search.specs.Search.{searchAccess, firstProbe, nextProbe, holdsPoint, probeAdvance, searchAdvance}
 use Rattle.slot_words.specs.Word.{pointOf, valueOf}
 use Rattle.search.proofs.SearchLaws.{searchLeft, some-left, searchedLeft, searchedInRange, OneStep, search-step}
 use Rattle.whole_operations.specs.Whole.{untilEnded}
@@ -118,7 +118,7 @@ module _ (slots : List ℕ) (m point reach : ℕ) where
   AfterProbe next (Answered answer) = answer ≡ whole
 
   pub after-probe : (next : ℕ) → FromIndex next → next ≤ reach → AfterProbe next (searchAdvance reach point (probing next) (wordRead slots (searchAccess m point (probing next))))
-  unfolding searchAdvance probeAdvance nextProbe searchEnd answerAfter
+  unfolding searchAdvance holdsPoint probeAdvance nextProbe searchEnd answerAfter
   after-probe next way h = go (eqb (pointOf word) point) (ltb next reach) refl same
     where
       word : ℕ

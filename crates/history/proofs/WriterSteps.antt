@@ -200,14 +200,15 @@ module _ (world : World) (inv : Inv (world .panel .m) (world .panel .k) world) w
               (subst (λ (n : WriterNotes). WriterRight k (underway .operation) n (stepAnswer progress)) (sym (stepped-as world progress stores feeding f h)) right);
         }
 
-    -- "fed whole at its step that stores the slot": a step that stores none and is not the last feeds nothing
+    -- "fed whole at its step that stores the slot"
+    feeds-storing : storesSlot access ≡ true → feedsNow world (stepAnswer continues) writerStep ≡ true
+    unfolding feedsNow storesNow endsNow either both
+    feeds-storing stores = ap (λ (b : Bool). either b false) stores
+
+    -- a step that stores none, and is not the last, feeds nothing
     feeds-not-yet : storesSlot access ≡ false → feedsNow world (stepAnswer continues) writerStep ≡ false
     unfolding feedsNow storesNow endsNow either both
-    feeds-not-yet stores = rw stores
-
-    feeds-storing : storesSlot access ≡ true → feedsNow world (stepAnswer continues) writerStep ≡ true
-    unfolding feedsNow storesNow either both
-    feeds-storing stores = rw stores
+    feeds-not-yet stores = ap (λ (b : Bool). either b false) stores
 
     -- "or at its last if it stores none", where it has not fed the list before
     feeds-at-last : (ending : Ending) → eqb (notes .feeds) 0 ≡ true → feedsNow world (stepAnswer (finishes ending)) writerStep ≡ true

@@ -2,13 +2,13 @@
 -- in range; a lookup takes at most k + 1 steps and a walk exactly m, whatever the others do in between; a step reads one of the slots lent.
 use Prim.Native.Nat.{ℕ, _+_, _-_, _≤_, _<_}
 use mathlib.Core.Path.{_≡_, refl, ap, _∙_}
-use mathlib.Core.Bool.{Bool, true, false, cond, not}
+use mathlib.Core.Bool.{true, false, not}
 use mathlib.Core.List.{List, [], _∷_}
 use native.Mathlib.Omega.{arith}
 use borrow.Author.Tests.{ltb-true, lt-ltb, not-false}
 use lib.Dec.{ltb}
 use lib.ListN.{length}
-use Rattle.conditions.proofs.ConditionLaws.{both-left, both-right, both-true}
+use Rattle.conditions.proofs.ConditionLaws.{both-left, both-right, both-true, cond-holds}
 use Rattle.refusal.proofs.Laws.{not-refused}
 use Rattle.record.specs.declared.Record.{Record}
 use Rattle.record.specs.declared.Search.{Search}
@@ -25,7 +25,7 @@ use Rattle.record_ranges.proofs.Laws.{fields, sizes-in-range, work-in-range, wi
 use Rattle.search.specs.declared.access.ReadAccess.the-variants.{Slot}
 use Rattle.search.specs.declared.Searched.{Searched}
 use Rattle.search.specs.declared.Searched.the-variants.{Going, Answered}
-use Rattle.answers.specs.Answers.{Answer, started, walked, walkedLast, Outcome, outcome}
+use Rattle.answers.specs.Answers.{Answer, started, Outcome, outcome}
 use Rattle.reader_step.specs.Reader.{readerAccess, ReaderEffect, lookupEffect, lookupAdvance, walkAdvance, readerAdvance, afterStep, readerRuns, stepRefusal, stepReader}
 use Rattle.reader_starts.specs.Starts.{lookupRefusal, startReader, startLookup, startWalk}
 use Rattle.reader_starts.specs.ReaderFacts.{OnlyWorkOf, Met, workAfter, ReachWithin, at-end, at-step}
@@ -94,11 +94,10 @@ lookup-effect m k point left (Answered answer) h s = record { in-range = refl; l
 
 walk-effect : (m k : ℕ) (walk : Walk) (word : ℕ) → OneLess m k (m - walk .next) (walkAdvance m walk word .work)
 unfolding walkAdvance workInRange stepsLeft
-walk-effect m k walk word = go (ltb (walk .next + 1) m) refl
-  where
-    go : (b : Bool) → ltb (walk .next + 1) m ≡ b → OneLess m k (m - walk .next) (cond {A = ReaderEffect} b (record { work = Walking (record { next = walk .next + 1 }); answer = walked word }) (record { work = Idle; answer = walkedLast word }) .work)
-    go true e = record { in-range = e; less = omega arith }
-    go false e = record { in-range = refl; less = omega arith }
+walk-effect m k walk word =
+    cond-holds (λ (effect : ReaderEffect). OneLess m k (m - walk .next) (effect .work)) (ltb (walk .next + 1) m) _ _
+    (λ more. record { in-range = more; less = omega arith })
+    (λ last. record { in-range = refl; less = omega arith })
 
 pub advances : (m k reach : ℕ) (work : ReaderWork) (word : ℕ) → reach ≤ k → workInRange m k work ≡ true → OneLess m k (stepsLeft m k work) (readerAdvance m reach work word .work)
 unfolding readerAdvance lookupAdvance workInRange lookupInRange stepsLeft
@@ -178,11 +177,10 @@ idle-stays m (now ∷ rest) = idle-stays m rest
 walk-ends : (m i : ℕ) (met : List Met) → 1 ≤ length met → i + length met ≡ m → workAfter m (Walking (record { next = i })) met ≡ Idle
 unfolding workAfter readerAdvance walkAdvance
 walk-ends m i [] h e = absurd (omega arith)
-walk-ends m i (now ∷ rest) h e = go (ltb (i + 1) m) refl (walk-ends m (i + 1) rest)
-  where
-    go : (b : Bool) → ltb (i + 1) m ≡ b → (1 ≤ length rest → i + 1 + length rest ≡ m → workAfter m (Walking (record { next = i + 1 })) rest ≡ Idle) → workAfter m (cond {A = ReaderEffect} b (record { work = Walking (record { next = i + 1 }); answer = walked (now .word) }) (record { work = Idle; answer = walkedLast (now .word) }) .work) rest ≡ Idle
-    go true t more = let below = ltb-true (i + 1) m t in more (omega arith) (omega arith)
-    go false t more = idle-stays m rest
+walk-ends m i (now ∷ rest) h e =
+    cond-holds (λ (effect : ReaderEffect). workAfter m (effect .work) rest ≡ Idle) (ltb (i + 1) m) _ _
+    (λ more. let below = ltb-true (i + 1) m more in walk-ends m (i + 1) rest (omega arith) (omega arith))
+    (λ last. idle-stays m rest)
 
 -- "slots 0 to m − 1, one a step, m steps": after fewer the walk is at the slot of that number
 pub walk-underway : (m : ℕ) (met : List Met) → length met < m → workAfter m (Walking (record { next = 0 })) met ≡ Walking (record { next = length met })

@@ -10,7 +10,7 @@ use native.Mathlib.Omega.{arith}
 use borrow.Author.Tests.{eqb-true, eqb-false, eq-eqb, ne-eqb, ltb-true, ltb-false}
 use lib.Dec.{eqb, ltb}
 use lib.ListN.{getD}
-use Rattle.conditions.proofs.ConditionLaws.{both-left, both-right}
+use Rattle.conditions.proofs.ConditionLaws.{both-left, both-right, cond-holds}
 use Rattle.slot_words.specs.Word.{pointOf}
 use Rattle.record.specs.declared.Walk.{Walk}
 use Rattle.record.specs.declared.Search.{Search}
@@ -309,29 +309,28 @@ module _ (m k reach : ℕ) (counts slots : List ℕ) (rows : Rows) (agrees : Agr
 
     pub walk-right : StepRight m k slots rows notes (Walking walk) (walkAdvance m walk read)
     unfolding walkAdvance steppedReader wordGiven ReportedOnce
-    walk-right = go (ltb (next + 1) m) refl
-      where
-        go : (more : Bool) → ltb (next + 1) m ≡ more → StepRight m k slots rows notes (Walking walk) (cond more (record { work = Walking (record { next = next + 1 }); answer = walked read }) (record { work = Idle; answer = walkedLast read }))
-        go true e =
-            record {
-              ok =
-                  record {
-                    steps = omega (arith, ok .steps);
-                    first = λ z. absurd (omega arith);
-                    passed = λ begun q low. passed-now q low;
-                  };
-              right = walk-underway read report-at (omega (arith, ok .steps, ltb-true (next + 1) m e));
-              reading = refl;
-              carried = refl;
-            }
-        go false e =
-            let past = ltb-false (next + 1) m e in
-            record {
-              ok = refl;
-              right = walk-ended read report-at (omega (arith, ok .steps)) (once (omega arith));
-              reading = refl;
-              carried = refl;
-            }
+    walk-right =
+        cond-holds (StepRight m k slots rows notes (Walking walk)) (ltb (next + 1) m) _ _
+        (λ more.
+        record {
+          ok =
+              record {
+                steps = omega (arith, ok .steps);
+                first = λ z. absurd (omega arith);
+                passed = λ begun q low. passed-now q low;
+              };
+          right = walk-underway read report-at (omega (arith, ok .steps, ltb-true (next + 1) m more));
+          reading = refl;
+          carried = refl;
+        })
+        (λ last.
+        let past = ltb-false (next + 1) m last in
+        record {
+          ok = refl;
+          right = walk-ended read report-at (omega (arith, ok .steps)) (once (omega arith));
+          reading = refl;
+          carried = refl;
+        })
 
   -- a step of a reader at work
   pub reader-right : (work : ReaderWork) → workInRange m k work ≡ true → isReaderIdle work ≡ false → ReaderOK m k rows notes work → StepRight m k slots rows notes work (readerAdvance m reach work (wordRead slots (readerAccess m work)))

@@ -2,7 +2,6 @@
 -- where it is carried out.
 use Prim.Native.Nat.{ℕ, zero, suc}
 use mathlib.Core.Path.{_≡_, refl, sym, ap, subst, _∙_}
-use mathlib.Core.Bool.{Bool, cond, not}
 use mathlib.Core.List.{List}
 use Rattle.conditions.specs.Conditions.{both, either}
 use Rattle.record.specs.declared.Record.{Record}
@@ -12,13 +11,13 @@ use Rattle.record.specs.declared.WriterWork.{WriterWork}
 use Rattle.record.specs.declared.WriterWork.the-variants.{Idle as WriterWork·Idle, Putting, Changing, Removing}
 use Rattle.record.specs.Parts.{workOf}
 use Rattle.record.specs.Idle.{isReaderIdle, isWriterIdle}
-use Rattle.answers.specs.Answers.{Ending, givenAgain, refused, Outcome, outcome, unlessRefused}
+use Rattle.answers.specs.Answers.{refused, Outcome, outcome, unlessRefused}
 use Rattle.plain_list.proofs.RowLaws.{steady-same}
 use Rattle.writer.proofs.WriterAgreement.{operationOf}
 use Rattle.history.specs.declared.Call.{Call}
-use Rattle.history.specs.Log.{Writing, Role, readerStart, readerStep, writerStart, writerStep, roleOf, Log, writingAfter, readingAfter, endedBy, endedNow, logAfter, isIdle, isNothing}
+use Rattle.history.specs.Log.{Role, readerStart, readerStep, writerStart, writerStep, roleOf, writingAfter, readingAfter, endedBy, endedNow, logAfter, isIdle, isNothing}
 use Rattle.history.specs.World.{World, storesNow, endsNow, feedsNow, rowsNow, writerNow, witnessed, readerNow, noted}
-use Rattle.history.specs.Claim.{refusalDue, Untouched, CarriedOut, AnsweredBy, Right}
+use Rattle.history.specs.Claim.{refusalDue, CarriedOut, AnsweredBy, Right}
 use Rattle.history.proofs.Readers.{ReaderOK, readingOf, reader-on}
 use Rattle.history.proofs.Invariant.{Inv}
 

@@ -1,7 +1,7 @@
 -- The calls of readers keep the invariant and are answered right.
 use Prim.Native.Nat.{ℕ, _≤_, _<_}
 use mathlib.Core.Bool.{Bool, true, false, cond, not, false≢true}
-use mathlib.Core.Path.{_≡_, refl, sym, ap, subst, _∙_}
+use mathlib.Core.Path.{_≡_, refl, sym, subst, _∙_}
 use mathlib.Core.List.{List}
 use native.Mathlib.Omega.{arith}
 use borrow.Author.Tests.{eqb-true, eqb-false, eq-eqb, ltb-false, lt-ltb, not-false}
@@ -22,19 +22,17 @@ use Rattle.slot_words.specs.Points.{validPoint}
 use Rattle.work_ranges.specs.WorkRanges.{searchInRange, lookupInRange, workInRange}
 use Rattle.record_ranges.specs.Ranges.{inRange}
 use Rattle.record_ranges.proofs.Laws.{fields, sizes-in-range, work-in-range, with-work-in-range}
-use Rattle.answers.specs.Answers.{Answer, started, hasEnded, isRefused, Outcome, outcome}
-use Rattle.plain_list.specs.PlainList.{Rows}
+use Rattle.answers.specs.Answers.{started, hasEnded, isRefused, outcome}
 use Rattle.search.specs.Access.{wordRead}
 use Rattle.search.proofs.SearchLaws.{searchLeft}
 use Rattle.reader_step.specs.Reader.{readerAccess, ReaderEffect, readerAdvance, afterStep, readerRuns, stepRefusal, stepReader}
 use Rattle.reader_starts.specs.Starts.{lookupRefusal, walkRefusal, startReader, startLookup, startWalk}
 use Rattle.reader_starts.proofs.ReaderLaws.{advances}
-use Rattle.history.specs.declared.Call.{Call}
 use Rattle.history.specs.declared.Call.the-variants.{StartLookup, StartWalk, StepReader}
 use Rattle.history.specs.Log.{Reading, idle, lookingUp, walking, readerStart, roleOf, writingAfter, readingAfter, endedNow, logAfter}
 use Rattle.history.specs.World.{ReaderNotes, noReaderNotes, World, storesNow, endsNow, feedsNow, rowsNow, writerNow, steppedReader, witnessed, readerNow, noted}
 use Rattle.history.specs.Claim.{refusalDue, ReaderRight}
-use Rattle.history.proofs.Readers.{ReaderOK, readingOf, not-begun, StepRight, reader-right}
+use Rattle.history.proofs.Readers.{ReaderOK, readingOf, StepRight, reader-right}
 use Rattle.history.proofs.Invariant.{Inv}
 use Rattle.history.proofs.Kept.{Kept, Done, reader-is-idle, still, judged}
 

@@ -19,7 +19,7 @@ use Rattle.record.specs.declared.ReaderWork.{ReaderWork}
 use Rattle.record.specs.declared.ReaderWork.the-variants.{Idle, LookingUp, Walking}
 use Rattle.slot_words.specs.Points.{validPoint}
 use Rattle.work_ranges.specs.WorkRanges.{searchInRange, lookupInRange, workInRange}
-use Rattle.answers.specs.Answers.{walked, walkedLast, hasEnded, isRefused}
+use Rattle.answers.specs.Answers.{hasEnded, isRefused}
 use Rattle.plain_list.specs.PlainList.{Rows, Entry, absent, present, entryOf, lookupEntry, lookupRow, Each, Some, here, there}
 use Rattle.plain_list.proofs.RowLaws.{Steady, steady-same}
 use Rattle.plain_list.proofs.Agreement.{valid-low, Agrees, place-low, shown-row, row-shown, word-row}

@@ -26,7 +26,7 @@ use Rattle.slot_words.specs.Points.{validPoint}
 use Rattle.work_ranges.specs.WorkRanges.{searchInRange, putStageInRange, putInRange, alterationInRange, changeStageInRange, changeInRange, removalStageInRange, removalInRange, writerInRange}
 use Rattle.record_ranges.specs.Ranges.{inRange}
 use Rattle.record_ranges.proofs.Laws.{with-writer-in-range}
-use Rattle.answers.specs.Answers.{started, givenAgain, refused, storedAnswer, Outcome, outcome, unlessRefused}
+use Rattle.answers.specs.Answers.{started, givenAgain, refused, storedAnswer, outcome, unlessRefused}
 use Rattle.plain_list.specs.PlainList.{nothing, put, change, removal, Each}
 use Rattle.plain_list.proofs.Agreement.{Tight}
 use Rattle.search.proofs.SearchLaws.{searchLeft}
@@ -38,14 +38,13 @@ use Rattle.writer.proofs.WriterAgreement.{operationOf}
 use Rattle.command.specs.declared.Sent.{Sent}
 use Rattle.command.specs.Command.{sentIn, frameRefusal, entryRefusal, commandedChange, changeStarts, numberEqual, numberOther, inTurn, startCommand}
 use Rattle.command.proofs.CommandLaws.{Valid, frame-valid, change-in-range}
-use Rattle.history.specs.declared.Call.{Call}
 use Rattle.history.specs.declared.Call.the-variants.{StartPut, StartChange, StartRemoval, StartCommand}
 use Rattle.history.specs.Log.{Writing, writing, writerStart, asChange, roleOf, Given, writingAfter, readingAfter, endedNow, logAfter}
 use Rattle.history.specs.World.{World, storesNow, endsNow, feedsNow, rowsNow, writerNow, readerNow, noted}
 use Rattle.history.specs.Claim.{operationRefusal, lastEnded, turnRefusal, refusalDue, CommandRight, stepBound}
 use Rattle.history.proofs.Commands.{commandOf, IsNext, heldBy, with-command}
 use Rattle.history.proofs.Invariant.{WriterOK, Inv}
-use Rattle.history.proofs.Kept.{Kept, Done, writer-is-idle, still, waits, refused-kept, done-kept, judged}
+use Rattle.history.proofs.Kept.{Kept, writer-is-idle, still, waits, refused-kept, done-kept, judged}
 
 idle-is : (work : WriterWork) → isWriterIdle work ≡ true → work ≡ Idle
 idle-is Idle e = refl

@@ -4,7 +4,7 @@ use denote.Ref.{now}
 use Rattle.answers.specs.Answers.{paperCall}
 use Rattle.history.specs.declared.Call.{Call}
 use Rattle.history.specs.Log.{roleOf, writingAfter}
-use Rattle.history.specs.World.{World, feedsNow, writerNow}
+use Rattle.history.specs.World.{feedsNow, writerNow}
 use Rattle.orders.specs.Kept.{NotesKept}
 use borrow.Author.Needs.{needs}
 use Rattle.orders.proofs.kept_list.notes_now.Statement.{statement}

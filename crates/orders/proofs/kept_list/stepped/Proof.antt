@@ -1,6 +1,5 @@
 -- `orders::kept_list::stepped` meets its contract, by whether the step ended the operation.
 use mathlib.Core.Path.{sym, ap, _∙_}
-use mathlib.Core.Bool.{Bool}
 use Rattle.conditions.specs.Conditions.{either}
 use Rattle.answers.specs.Answers.{paperCall}
 use Rattle.orders.proofs.KeptLaws.{ended-kept, stepped-kept}

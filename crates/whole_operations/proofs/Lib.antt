@@ -1,4 +1,5 @@
 pub mod ChangesLaws
+mod ChangesMade
 pub mod WholeLaws
 mod WholeSearch
 pub mod WholeLookup

@@ -5,13 +5,16 @@ use mathlib.Core.List.{List}
 use lib.Dec.{eqb}
 use Rattle.conditions.specs.Conditions.{either}
 use Rattle.record.specs.declared.Record.{Record}
-use Rattle.record.specs.Parts.{withReach, withCount}
-use Rattle.answers.specs.Answers.{isUnderway, Outcome}
+use Rattle.refusal.specs.Refusals.{numberOf}
+use Rattle.record.specs.Parts.{withReach, countOf, withCount}
+use Rattle.answers.specs.Answers.{Answer, ended, refused, paperEnding, isUnderway, isRefused, Outcome}
 use Rattle.reader_step.specs.Reader.{stepReader}
 use Rattle.reader_starts.specs.Starts.{startLookup}
 use Rattle.writer.specs.Step.{stepWriter}
 use Rattle.writer.specs.Starts.{startPut, startRemoval}
 use Rattle.whole_operations.specs.declared.changes.Changes.{Changes}
+use Rattle.whole_operations.specs.declared.changes.Written.{Written}
+use Rattle.whole_operations.specs.declared.changes.Written.the-variants.{Refused, Done}
 
 -- as many steps as the operation takes, at most n
 unfoldable pub untilEnded : (Outcome → Outcome) → ℕ → Outcome → Outcome
@@ -38,9 +41,42 @@ wholePut panel slots point value = untilEnded writerStep (2 * panel .k + 2) (sta
 unfoldable pub wholeRemoval : Record → List ℕ → ℕ → Outcome
 wholeRemoval panel slots point = untilEnded writerStep (panel .k + 3) (startRemoval panel slots point)
 
--- the record that a put or removal leaves at its end: the reach, and the count of one index, or of none where that is 0
+-- the largest index of 1 to n whose count is another in the second record, or 0
+unfoldable pub recountedUpTo : Record → Record → ℕ → ℕ
+recountedUpTo before after zero = 0
+recountedUpTo before after (suc i) = cond (eqb (countOf before (suc i)) (countOf after (suc i))) (recountedUpTo before after i) (suc i)
+
+-- the index whose count is another than before, or 0
+unfoldable pub recounted : Record → Record → ℕ
+recounted before after = recountedUpTo before after 64
+
+-- what is another than before in a record: the reach after, the index whose count is another, or 0, and its count after, or 0
+unfoldable pub changesBetween : Record → Record → Changes
+changesBetween before after =
+    record { reach = after .reach; index = recounted before after; count = countOf after (recounted before after) }
+
+-- the numbers that a put or removal hands back besides its answer; "With a refusal every other number handed back is 0"
+unfoldable pub changesOf : Record → Outcome → Changes
+changesOf before after = cond (isRefused (after .answer)) (record { reach = 0; index = 0; count = 0 }) (changesBetween before (after .panel))
+
+-- the same in the code's enum
+abbrev pub changesIn : Written → Changes
+changesIn (Refused r) = record { reach = 0; index = 0; count = 0 }
+changesIn (Done finished) = finished .changes
+
+-- its answer
+abbrev pub paperWritten : Written → Answer
+paperWritten (Refused r) = refused (numberOf r)
+paperWritten (Done finished) = ended (paperEnding (finished .ending))
+
+-- a record with these changes made: the reach, and the count of one index, or of none where that is 0
 unfoldable pub leaves : Record → Changes → Record
 leaves panel changes = withCount (withReach panel (changes .reach)) (changes .index) (changes .count)
+
+-- the record after a put or removal: a refused one leaves it as it is
+abbrev pub recordAfter : Record → Written → Record
+recordAfter panel (Refused r) = panel
+recordAfter panel (Done finished) = leaves panel (finished .changes)
 
 -- they change something in a record of this reach
 unfoldable pub changesAny : ℕ → Changes → Bool

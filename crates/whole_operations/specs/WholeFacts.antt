@@ -1,7 +1,9 @@
 -- The words in which the contracts of the loops are stated. No public contract cites them.
 use Prim.Native.Nat.{ℕ, zero, suc}
-use mathlib.Core.Bool.{Bool, true, false}
+use mathlib.Core.Bool.{Bool, true, false, cond, not}
 use mathlib.Core.List.{List}
+use lib.Dec.{eqb}
+use Rattle.conditions.specs.Conditions.{both, within}
 use Rattle.record.specs.declared.Search.{Search}
 use Rattle.record.specs.declared.WriterWork.{WriterWork}
 use Rattle.record.specs.declared.WriterWork.the-variants.{Idle, Putting, Changing, Removing}
@@ -13,6 +15,7 @@ use Rattle.search.specs.Access.{wordRead}
 use Rattle.search.specs.Search.{searchAccess, searchAdvance}
 use Rattle.effects.specs.declared.update.Update.{Update}
 use Rattle.effects.specs.declared.update.Update.the-variants.{Nothing, Reach, Counted, Uncounted, Answered}
+use Rattle.whole_operations.specs.declared.changes.Changes.{Changes}
 
 -- what a search comes to from how it stands after a step
 unfoldable pub answerAfter : (Search → SearchAnswer) → Searched → SearchAnswer
@@ -54,3 +57,10 @@ removes Idle = true
 removes (Putting put) = false
 removes (Changing change) = false
 removes (Removing removal) = true
+
+-- the reach, and the index whose count was the first number and is the second; where these are the same, or there is no such index, 0 and 0
+unfoldable pub changesMade : ℕ → ℕ → ℕ → ℕ → Changes
+changesMade reach index before after =
+    cond (both (within 1 index 64) (not (eqb before after)))
+    (record { reach = reach; index = index; count = after })
+    (record { reach = reach; index = 0; count = 0 })

@@ -1,12 +1,15 @@
 // What a whole operation of the writer comes to.
 ghost use mathlib.Core.Bool.{false};
 ghost use mathlib.Core.Path.{_≡_};
-ghost use Rattle.refusal.specs.Refusals.{numberOf};
-ghost use Rattle.answers.specs.Answers.{refused, stepAnswer, paperProgress, paperWhole, isUnderway};
-ghost use Rattle.whole_operations.specs.Whole.{leaves, changesAny};
+ghost use Rattle.record.specs.declared.Record.{Record};
+ghost use Rattle.answers.specs.Answers.{stepAnswer, paperProgress, isUnderway};
+ghost use Rattle.whole_operations.specs.Whole.{leaves, changesAny, paperWritten, changesIn, recordAfter};
+ghost use Rattle.whole_operations.specs.WholeFacts.{changesMade};
+use answers::Ending;
 use answers::Progress;
-use answers::WholeAnswer;
+use conditions::both_hold;
 use conditions::either_holds;
+use conditions::is_within;
 use record::Record;
 use record::WriterWork;
 use record::parts::with_count;
@@ -14,17 +17,24 @@ use refusal::Refusal;
 
 // What the operation changes in the record. The writer is idle again.
 pub struct Changes {
+    // the reach after it
     pub reach: u32,
-    // the index whose count changed, or 0
+    // the index whose count is another than before, or 0
     pub index: u32,
-    // its count
+    // the count of that index after it, or 0
     pub count: u32,
 }
 
-// The same with the operation's answer.
-pub struct Written {
+// An operation that was carried out to its end.
+pub struct Finished {
     pub changes: Changes,
-    pub answer: WholeAnswer,
+    pub ending: Ending,
+}
+
+// What a whole put or removal hands back. With a refusal there is no other number.
+pub enum Written {
+    Refused(Refusal),
+    Done(Finished),
 }
 
 // What the steps of an operation come to, and the work that is left where the budget was used up.
@@ -50,27 +60,37 @@ pub fn has_changes(changes: Changes, reach: u32) -> bool
     either_holds(changes.index != 0, changes.reach != reach)
 }
 
-// A refused start changes nothing.
-pub(crate) fn unchanged(panel: Record, refusal: Refusal) -> Written
-    ensures { λ r. ⌜ (leaves panel (r .changes) ≡ panel) × (paperWhole (r .answer) ≡ refused (numberOf refusal)) ⌝ }
+// The changes of an operation that counted an index, or none where that is 0: on a record that no history
+// leads to the count may be at its end already, and then no count is another than before.
+pub(crate) fn changes_made(reach: u32, index: u32, before: u32, after: u32) -> Changes
+    ensures { λ r. ⌜ r ≡ changesMade reach index before after ⌝ }
 {
-    Written {
-        changes: Changes {
-            reach: panel.reach,
-            index: 0,
-            count: 0,
-        },
-        answer: WholeAnswer::Refused(refusal),
+    if both_hold(is_within(1, index, 64), before != after) {
+        return Changes {
+            reach: reach,
+            index: index,
+            count: after,
+        };
+    }
+    Changes {
+        reach: reach,
+        index: 0,
+        count: 0,
     }
 }
 
-// The answer of an operation that has ended.
-pub(crate) fn answer_of(progress: Progress) -> WholeAnswer
+// What an operation hands back that has ended.
+pub(crate) fn handed_back(changes: Changes, progress: Progress) -> Written
     requires { ⌜ isUnderway (stepAnswer (paperProgress progress)) ≡ false ⌝ }
-    ensures { λ r. ⌜ paperWhole r ≡ stepAnswer (paperProgress progress) ⌝ }
+    ensures { λ r. ⌜ (paperWritten r ≡ stepAnswer (paperProgress progress)) × (changesIn r ≡ changes) × ((panel : Record) → recordAfter panel r ≡ leaves panel changes) ⌝ }
 {
     match progress {
-        Progress::Underway => WholeAnswer::Refused(Refusal::Idle),
-        Progress::Ended(ending) => WholeAnswer::Ended(ending),
+        Progress::Underway => Written::Refused(Refusal::Idle),
+        Progress::Ended(ending) => {
+            Written::Done(Finished {
+                changes: changes,
+                ending: ending,
+            })
+        }
     }
 }

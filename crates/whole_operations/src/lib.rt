@@ -8,6 +8,7 @@ mod removing;
 mod searching;
 
 pub use changes::Changes;
+pub use changes::Finished;
 pub use changes::Written;
 pub use changes::has_changes;
 pub use changes::with_changes;

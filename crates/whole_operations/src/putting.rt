@@ -6,18 +6,17 @@ ghost use lib.ListN.{length};
 ghost use Rattle.record.specs.Idle.{isWriterIdle};
 ghost use Rattle.record.specs.Parts.{withReach, withWriter};
 ghost use Rattle.record_ranges.specs.Ranges.{inRange};
-ghost use Rattle.answers.specs.Answers.{stepAnswer, paperProgress, paperWhole, isUnderway, outcome};
+ghost use Rattle.answers.specs.Answers.{stepAnswer, paperProgress, isUnderway, outcome};
 ghost use Rattle.effects.specs.Effects.{paperEffect, updated};
 ghost use Rattle.writer.specs.Step.{writerAccess, writerAdvance};
-ghost use Rattle.whole_operations.specs.Whole.{untilEnded, writerStep, wholePut, leaves};
+ghost use Rattle.whole_operations.specs.Whole.{untilEnded, writerStep, wholePut, leaves, changesBetween, changesOf, paperWritten, changesIn, recordAfter};
 ghost use Rattle.whole_operations.specs.WholeFacts.{puts, indexCounted};
 use crate::budget::goes_on;
 use crate::budget::while_underway;
-use crate::changes::Changes;
 use crate::changes::Ran;
 use crate::changes::Written;
-use crate::changes::answer_of;
-use crate::changes::unchanged;
+use crate::changes::changes_made;
+use crate::changes::handed_back;
 use crate::searching::whole_search;
 use effects::counts::one_more;
 use effects::memory::WriterAccess;
@@ -34,6 +33,7 @@ use record::PutStage;
 use record::Record;
 use record::Search;
 use record::WriterWork;
+use record::parts::count_of;
 use refusal::Judged;
 use search::access::ReadAccess;
 use writer::judge_start;
@@ -95,7 +95,7 @@ fn index_counted(update: Update) -> u32
 // again.
 fn steps(panel: Record, slots: &mut [u64], begun: Effect, budget: u64) -> Ran
     requires { ⌜ (inRange (length (now slots)) (withWriter panel (begun .work)) ≡ true) × (isUnderway (stepAnswer (paperProgress (begun .progress))) ≡ not (isWriterIdle (begun .work))) × (puts (begun .work) ≡ true) ⌝ }
-    ensures { λ r. ⌜ (outcome (withWriter (leaves panel (r .changes)) (r .work)) (now (slots .exit)) (stepAnswer (paperProgress (r .progress))) ≡ untilEnded writerStep budget (outcome (withWriter panel (begun .work)) (now (slots .entry)) (stepAnswer (paperProgress (begun .progress))))) × (isUnderway (stepAnswer (paperProgress (r .progress))) ≡ not (isWriterIdle (r .work))) ⌝ }
+    ensures { λ r. ⌜ (outcome (withWriter (leaves panel (r .changes)) (r .work)) (now (slots .exit)) (stepAnswer (paperProgress (r .progress))) ≡ untilEnded writerStep budget (outcome (withWriter panel (begun .work)) (now (slots .entry)) (stepAnswer (paperProgress (begun .progress))))) × (isUnderway (stepAnswer (paperProgress (r .progress))) ≡ not (isWriterIdle (r .work))) × (r .changes ≡ changesBetween panel (leaves panel (r .changes))) ⌝ }
 {
     let mut reach = panel.reach;
     let mut index = 0;
@@ -114,11 +114,7 @@ fn steps(panel: Record, slots: &mut [u64], begun: Effect, budget: u64) -> Ran
         left = while_underway(left - 1, goes_on(progress));
     }
     Ran {
-        changes: Changes {
-            reach: reach,
-            index: index,
-            count: one_more(panel, index),
-        },
+        changes: changes_made(reach, index, count_of(panel, index), one_more(panel, index)),
         progress: progress,
         work: work,
     }
@@ -126,7 +122,7 @@ fn steps(panel: Record, slots: &mut [u64], begun: Effect, budget: u64) -> Ran
 
 // Puts a point and its value, from the start to the end.
 pub fn whole_put(panel: Record, slots: &mut [u64], point: u32, value: u32) -> Written
-    ensures { λ r. ⌜ outcome (leaves panel (r .changes)) (now (slots .exit)) (paperWhole (r .answer)) ≡ wholePut panel (now (slots .entry)) point value ⌝ }
+    ensures { λ r. ⌜ (outcome (recordAfter panel r) (now (slots .exit)) (paperWritten r) ≡ wholePut panel (now (slots .entry)) point value) × (changesIn r ≡ changesOf panel (wholePut panel (now (slots .entry)) point value)) ⌝ }
 {
     let budget = 2 * panel.k as u64 + 2;
     let put = Put {
@@ -135,16 +131,13 @@ pub fn whole_put(panel: Record, slots: &mut [u64], point: u32, value: u32) -> Wr
         stage: PutStage::Searching(Search::Unread),
     };
     match judge_start(panel, slots.len(), point) {
-        Judged::Refused(refusal) => unchanged(panel, refusal),
+        Judged::Refused(refusal) => Written::Refused(refusal),
         Judged::Allowed => {
             let answer = whole_search(slots, panel.m, point, panel.reach);
             let ran = steps(panel, slots, put_answered(put, answer), budget);
             let changes = ran.changes;
             let progress = ran.progress;
-            Written {
-                changes: changes,
-                answer: answer_of(progress),
-            }
+            handed_back(changes, progress)
         }
     }
 }

@@ -4,17 +4,16 @@ ghost use mathlib.Core.Path.{_≡_};
 ghost use lib.ListN.{length};
 ghost use Rattle.record.specs.Parts.{withWriter};
 ghost use Rattle.record_ranges.specs.Ranges.{inRange};
-ghost use Rattle.answers.specs.Answers.{stepAnswer, paperProgress, paperWhole, isUnderway, outcome};
+ghost use Rattle.answers.specs.Answers.{stepAnswer, paperProgress, isUnderway, outcome};
 ghost use Rattle.record.specs.Idle.{isWriterIdle};
-ghost use Rattle.whole_operations.specs.Whole.{untilEnded, writerStep, wholeRemoval, leaves};
+ghost use Rattle.whole_operations.specs.Whole.{untilEnded, writerStep, wholeRemoval, leaves, changesBetween, changesOf, paperWritten, changesIn, recordAfter};
 ghost use Rattle.whole_operations.specs.WholeFacts.{indexUncounted, removes};
 use crate::budget::goes_on;
 use crate::budget::while_underway;
-use crate::changes::Changes;
 use crate::changes::Ran;
 use crate::changes::Written;
-use crate::changes::answer_of;
-use crate::changes::unchanged;
+use crate::changes::changes_made;
+use crate::changes::handed_back;
 use crate::searching::whole_search;
 use effects::memory::perform;
 use effects::memory::slot_stored;
@@ -50,7 +49,7 @@ fn index_uncounted(index: u32, update: Update) -> u32
 // judge it again.
 fn steps(panel: Record, slots: &mut [u64], begun: Effect, budget: u64) -> Ran
     requires { ⌜ (inRange (length (now slots)) (withWriter panel (begun .work)) ≡ true) × (isUnderway (stepAnswer (paperProgress (begun .progress))) ≡ not (isWriterIdle (begun .work))) × (removes (begun .work) ≡ true) ⌝ }
-    ensures { λ r. ⌜ (outcome (withWriter (leaves panel (r .changes)) (r .work)) (now (slots .exit)) (stepAnswer (paperProgress (r .progress))) ≡ untilEnded writerStep budget (outcome (withWriter panel (begun .work)) (now (slots .entry)) (stepAnswer (paperProgress (begun .progress))))) × (isUnderway (stepAnswer (paperProgress (r .progress))) ≡ not (isWriterIdle (r .work))) ⌝ }
+    ensures { λ r. ⌜ (outcome (withWriter (leaves panel (r .changes)) (r .work)) (now (slots .exit)) (stepAnswer (paperProgress (r .progress))) ≡ untilEnded writerStep budget (outcome (withWriter panel (begun .work)) (now (slots .entry)) (stepAnswer (paperProgress (begun .progress))))) × (isUnderway (stepAnswer (paperProgress (r .progress))) ≡ not (isWriterIdle (r .work))) × (r .changes ≡ changesBetween panel (leaves panel (r .changes))) ⌝ }
 {
     let mut held = panel;
     let mut index = 0;
@@ -71,11 +70,12 @@ fn steps(panel: Record, slots: &mut [u64], begun: Effect, budget: u64) -> Ran
         left = while_underway(left - 1, goes_on(progress));
     }
     Ran {
-        changes: Changes {
-            reach: held.reach,
-            index: index,
-            count: count_of(held, index),
-        },
+        changes: changes_made(
+            held.reach,
+            index,
+            count_of(panel, index),
+            count_of(held, index),
+        ),
         progress: progress,
         work: work,
     }
@@ -83,7 +83,7 @@ fn steps(panel: Record, slots: &mut [u64], begun: Effect, budget: u64) -> Ran
 
 // Removes a point, from the start to the end.
 pub fn whole_removal(panel: Record, slots: &mut [u64], point: u32) -> Written
-    ensures { λ r. ⌜ outcome (leaves panel (r .changes)) (now (slots .exit)) (paperWhole (r .answer)) ≡ wholeRemoval panel (now (slots .entry)) point ⌝ }
+    ensures { λ r. ⌜ (outcome (recordAfter panel r) (now (slots .exit)) (paperWritten r) ≡ wholeRemoval panel (now (slots .entry)) point) × (changesIn r ≡ changesOf panel (wholeRemoval panel (now (slots .entry)) point)) ⌝ }
 {
     let budget = panel.k as u64 + 3;
     let removal = Removal {
@@ -91,16 +91,13 @@ pub fn whole_removal(panel: Record, slots: &mut [u64], point: u32) -> Written
         stage: RemovalStage::Searching(Search::Unread),
     };
     match judge_start(panel, slots.len(), point) {
-        Judged::Refused(refusal) => unchanged(panel, refusal),
+        Judged::Refused(refusal) => Written::Refused(refusal),
         Judged::Allowed => {
             let answer = whole_search(slots, panel.m, point, panel.reach);
             let ran = steps(panel, slots, removal_answered(removal, answer), budget);
             let changes = ran.changes;
             let progress = ran.progress;
-            Written {
-                changes: changes,
-                answer: answer_of(progress),
-            }
+            handed_back(changes, progress)
         }
     }
 }

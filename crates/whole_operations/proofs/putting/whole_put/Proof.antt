@@ -10,13 +10,14 @@ use Rattle.record.specs.declared.Put.{Put}
 use Rattle.record.specs.declared.PutStage.the-variants.{Searching}
 use Rattle.record.specs.declared.WriterWork.the-variants.{Putting}
 use Rattle.record.specs.Parts.{withReach, withCounts, withCount, withWriter}
-use Rattle.answers.specs.Answers.{outcome}
+use Rattle.answers.specs.Answers.{paperProgress}
 use Rattle.effects.specs.Effects.{WriterEffect}
 use Rattle.put.specs.Put.{putAnswered}
 use Rattle.writer.specs.Starts.{startPut}
 use Rattle.writer.proofs.WriterLaws.{put-begins}
-use Rattle.whole_operations.specs.Whole.{wholePut, leaves}
+use Rattle.whole_operations.specs.Whole.{wholePut, changesOf, leaves}
 use Rattle.whole_operations.specs.WholeFacts.{puts}
+use Rattle.whole_operations.proofs.ChangesMade.{hands-back}
 use Rattle.whole_operations.proofs.WholeEnds.{whole-put-ends}
 use Rattle.whole_operations.proofs.WholeWriting.{reach-fits, run-refused}
 use Rattle.whole_operations.proofs.WriterSearch.{pointOfWork, searchingBy, answeredBy, answered-puts, effect-at-work, whole-ended, has-answer}
@@ -37,9 +38,6 @@ judge-start-requires c κs = search needs
 
 enum-known-refusal : tie.Need-enum-known-refusal
 enum-known-refusal c = search needs
-
-unchanged-requires : tie.Need-unchanged-requires
-unchanged-requires c κs = search needs
 
 enum-told : tie.Need-enum-told
 enum-told c = search needs
@@ -64,9 +62,9 @@ steps-requires c κs =
     let held = effect-at-work (a .panel) s (a .point) (Putting put) (2 * a .panel .k + 2) e (omega arith) refl (λ answer. answered-puts put answer .0) refl refl (put-begins (a .panel) s (a .point) (a .value)) (whole-put-ends (a .panel) s (a .point) (a .value)) _ effect in
     (held .fits, held .busy, ap (λ (m : WriterEffect). puts (m .work)) effect ∙ answered-puts put _ .1)
 
-answer-of-requires : tie.Need-answer-of-requires
+handed-back-requires : tie.Need-handed-back-requires
 unfolding wholePut startPut leaves withReach withCount withCounts searchingBy pointOfWork answeredBy
-answer-of-requires c κs =
+handed-back-requires c κs =
     let a = c .before .before .before .before .before .before .before .before .before .before .before .before .before .args in
     let s = now (a .slots) in
     let put : Put = record { point = a .point; value = a .value; stage = Searching Unread } in
@@ -76,13 +74,13 @@ answer-of-requires c κs =
     has-answer (a .panel) s (a .point) (Putting put) (2 * a .panel .k + 2) e (omega arith) refl (λ answer. answered-puts put answer .0) refl refl (put-begins (a .panel) s (a .point) (a .value)) (whole-put-ends (a .panel) s (a .point) (a .value)) _ effect _ _ _ _ refl (ran .1) (ran .0)
 
 returns : tie.Need-returns
-unfolding wholePut startPut
+unfolding wholePut startPut changesOf
 returns c =
-    let a = c .before .before .before .before .before .before .before .args in
+    let a = c .before .before .before .before .before .before .args in
     let s = now (a .slots) in
-    let e = sym (c .before .before .before .before .judge-start .ensures) ∙ ap paperJudged (c .before .before .refusal .given .1) in
-    (λ j. outcome (c .unchanged .ensures .0 j) s (c .unchanged .ensures .1 j))
-    ∙ run-refused (a .panel) s (a .point) _ (2 * a .panel .k + 2) (c .before .before .refusal .given .0 .0) e
+    let e = sym (c .before .before .before .judge-start .ensures) ∙ ap paperJudged (c .before .refusal .given .1) in
+    let same = run-refused (a .panel) s (a .point) _ (2 * a .panel .k + 2) (c .before .refusal .given .0 .0) e in
+    (same, ap (changesOf (a .panel)) same)
 
 same-length : tie.Need-same-length
 same-length c = search needs
@@ -96,8 +94,8 @@ returns-2 c =
     let e = sym (c .before .before .before .before .before .before .before .before .before .before .before .judge-start .ensures) ∙ ap paperJudged (c .before .before .before .before .before .before .before .before .before .enum-told .given .1) in
     let effect = c .before .before .before .before .before .put-answered .ensures ∙ ap (putAnswered put) (c .before .before .before .before .before .before .before .whole-search .ensures) in
     let ran = c .before .before .before .before .steps .ensures in
-    ap (outcome (leaves (a .panel) (c .before .before .before .before .steps .result .changes)) _) (c .answer-of .ensures)
-    ∙ whole-ended (a .panel) s (a .point) (Putting put) (2 * a .panel .k + 2) e (omega arith) refl (λ answer. answered-puts put answer .0) refl refl (put-begins (a .panel) s (a .point) (a .value)) (whole-put-ends (a .panel) s (a .point) (a .value)) _ effect _ _ _ _ refl (ran .1) (ran .0)
+    hands-back (a .panel) (c .before .before .before .before .steps .result .changes) _ (paperProgress (c .before .before .before .before .steps .result .progress)) (c .handed-back .result) (wholePut (a .panel) s (a .point) (a .value)) (c .handed-back .ensures) (ran .2)
+    (whole-ended (a .panel) s (a .point) (Putting put) (2 * a .panel .k + 2) e (omega arith) refl (λ answer. answered-puts put answer .0) refl refl (put-begins (a .panel) s (a .point) (a .value)) (whole-put-ends (a .panel) s (a .point) (a .value)) _ effect _ _ _ _ refl (ran .1) (ran .0))
 
 pub whole-put-spec : {M : Type 1} → statement M
 whole-put-spec =
@@ -108,12 +106,11 @@ whole-put-spec =
     add-budget
     judge-start-requires
     enum-known-refusal
-    unchanged-requires
     enum-told
     whole-search-requires
     put-answered-requires
     steps-requires
-    answer-of-requires
+    handed-back-requires
     returns
     same-length
     returns-2)

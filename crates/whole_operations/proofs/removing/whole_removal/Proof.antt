@@ -10,13 +10,14 @@ use Rattle.record.specs.declared.Removal.{Removal}
 use Rattle.record.specs.declared.RemovalStage.the-variants.{Searching}
 use Rattle.record.specs.declared.WriterWork.the-variants.{Removing}
 use Rattle.record.specs.Parts.{withReach, withCounts, withCount, withWriter}
-use Rattle.answers.specs.Answers.{outcome}
+use Rattle.answers.specs.Answers.{paperProgress}
 use Rattle.effects.specs.Effects.{WriterEffect}
 use Rattle.removal.specs.Removal.{removalAnswered}
 use Rattle.writer.specs.Starts.{startRemoval}
 use Rattle.writer.proofs.WriterLaws.{removal-begins}
-use Rattle.whole_operations.specs.Whole.{wholeRemoval, leaves}
+use Rattle.whole_operations.specs.Whole.{wholeRemoval, changesOf, leaves}
 use Rattle.whole_operations.specs.WholeFacts.{removes}
+use Rattle.whole_operations.proofs.ChangesMade.{hands-back}
 use Rattle.whole_operations.proofs.WholeEnds.{whole-removal-ends}
 use Rattle.whole_operations.proofs.WholeWriting.{reach-fits, run-refused}
 use Rattle.whole_operations.proofs.WriterSearch.{pointOfWork, searchingBy, answeredBy, answered-removes, effect-at-work, whole-ended, has-answer}
@@ -34,9 +35,6 @@ judge-start-requires c κs = search needs
 
 enum-known-refusal : tie.Need-enum-known-refusal
 enum-known-refusal c = search needs
-
-unchanged-requires : tie.Need-unchanged-requires
-unchanged-requires c κs = search needs
 
 enum-told : tie.Need-enum-told
 enum-told c = search needs
@@ -61,9 +59,9 @@ steps-requires c κs =
     let held = effect-at-work (a .panel) s (a .point) (Removing removal) (a .panel .k + 3) e (omega arith) refl (λ answer. answered-removes removal answer .0) refl refl (removal-begins (a .panel) s (a .point)) (whole-removal-ends (a .panel) s (a .point)) _ effect in
     (held .fits, held .busy, ap (λ (m : WriterEffect). removes (m .work)) effect ∙ answered-removes removal _ .1)
 
-answer-of-requires : tie.Need-answer-of-requires
+handed-back-requires : tie.Need-handed-back-requires
 unfolding wholeRemoval startRemoval leaves withReach withCount withCounts searchingBy pointOfWork answeredBy
-answer-of-requires c κs =
+handed-back-requires c κs =
     let a = c .before .before .before .before .before .before .before .before .before .before .before .before .before .args in
     let s = now (a .slots) in
     let removal : Removal = record { point = a .point; stage = Searching Unread } in
@@ -73,13 +71,13 @@ answer-of-requires c κs =
     has-answer (a .panel) s (a .point) (Removing removal) (a .panel .k + 3) e (omega arith) refl (λ answer. answered-removes removal answer .0) refl refl (removal-begins (a .panel) s (a .point)) (whole-removal-ends (a .panel) s (a .point)) _ effect _ _ _ _ refl (ran .1) (ran .0)
 
 returns : tie.Need-returns
-unfolding wholeRemoval startRemoval
+unfolding wholeRemoval startRemoval changesOf
 returns c =
-    let a = c .before .before .before .before .before .before .before .args in
+    let a = c .before .before .before .before .before .before .args in
     let s = now (a .slots) in
-    let e = sym (c .before .before .before .before .judge-start .ensures) ∙ ap paperJudged (c .before .before .refusal .given .1) in
-    (λ j. outcome (c .unchanged .ensures .0 j) s (c .unchanged .ensures .1 j))
-    ∙ run-refused (a .panel) s (a .point) _ (a .panel .k + 3) (c .before .before .refusal .given .0 .0) e
+    let e = sym (c .before .before .before .judge-start .ensures) ∙ ap paperJudged (c .before .refusal .given .1) in
+    let same = run-refused (a .panel) s (a .point) _ (a .panel .k + 3) (c .before .refusal .given .0 .0) e in
+    (same, ap (changesOf (a .panel)) same)
 
 same-length : tie.Need-same-length
 same-length c = search needs
@@ -93,8 +91,8 @@ returns-2 c =
     let e = sym (c .before .before .before .before .before .before .before .before .before .before .before .judge-start .ensures) ∙ ap paperJudged (c .before .before .before .before .before .before .before .before .before .enum-told .given .1) in
     let effect = c .before .before .before .before .before .removal-answered .ensures ∙ ap (removalAnswered removal) (c .before .before .before .before .before .before .before .whole-search .ensures) in
     let ran = c .before .before .before .before .steps .ensures in
-    ap (outcome (leaves (a .panel) (c .before .before .before .before .steps .result .changes)) _) (c .answer-of .ensures)
-    ∙ whole-ended (a .panel) s (a .point) (Removing removal) (a .panel .k + 3) e (omega arith) refl (λ answer. answered-removes removal answer .0) refl refl (removal-begins (a .panel) s (a .point)) (whole-removal-ends (a .panel) s (a .point)) _ effect _ _ _ _ refl (ran .1) (ran .0)
+    hands-back (a .panel) (c .before .before .before .before .steps .result .changes) _ (paperProgress (c .before .before .before .before .steps .result .progress)) (c .handed-back .result) (wholeRemoval (a .panel) s (a .point)) (c .handed-back .ensures) (ran .2)
+    (whole-ended (a .panel) s (a .point) (Removing removal) (a .panel .k + 3) e (omega arith) refl (λ answer. answered-removes removal answer .0) refl refl (removal-begins (a .panel) s (a .point)) (whole-removal-ends (a .panel) s (a .point)) _ effect _ _ _ _ refl (ran .1) (ran .0))
 
 pub whole-removal-spec : {M : Type 1} → statement M
 whole-removal-spec =
@@ -104,12 +102,11 @@ whole-removal-spec =
     add-budget
     judge-start-requires
     enum-known-refusal
-    unchanged-requires
     enum-told
     whole-search-requires
     removal-answered-requires
     steps-requires
-    answer-of-requires
+    handed-back-requires
     returns
     same-length
     returns-2)

@@ -1,0 +1,24 @@
+-- `whole_operations::changes::handed_back` meets its contract: an operation that is underway is none of the cases.
+use mathlib.Core.Bool.{false≢true}
+use mathlib.Core.Path.{refl, _∙_, sym, ap}
+use borrow.Author.Needs.{needs}
+use Rattle.answers.specs.declared.Progress.{Progress}
+use Rattle.answers.specs.Answers.{stepAnswer, paperProgress, isUnderway}
+use Rattle.whole_operations.proofs.changes.handed_back.Statement.{statement}
+use Rattle.whole_operations.proofs.changes.handed_back.Tie as tie
+
+enum-told : tie.Need-enum-told
+enum-told c = search needs
+
+enum-known-progress : tie.Need-enum-known-progress
+enum-known-progress c = search needs
+
+returns : tie.Need-returns
+returns c = absurd (false≢true (sym (c .before .before .pre) ∙ ap (λ (p : Progress). isUnderway (stepAnswer (paperProgress p))) (c .enum-told .given .1)))
+
+returns-2 : tie.Need-returns-2
+returns-2 c =
+    (sym (ap (λ (p : Progress). stepAnswer (paperProgress p)) (c .before .progress .given .1)), refl, λ panel. refl)
+
+pub handed-back-spec : {M : Type 1} → statement M
+handed-back-spec = tie.close (tie.spec enum-told enum-known-progress returns returns-2)

@@ -2,7 +2,7 @@
 use Prim.Native.Nat.{ℕ, suc, _+_, _<_, _≤_}
 use mathlib.Core.Bool.{Bool, cond}
 use mathlib.Core.List.{List, [], _∷_, _++_}
-use mathlib.Core.Path.{_≡_, sym, ap, _∙_}
+use mathlib.Core.Path.{_≡_, refl, sym, ap, _∙_}
 use native.Mathlib.Numerals.{add-one}
 use native.Mathlib.Omega.{arith}
 use borrow.Author.Tests.{lt-ltb}
@@ -15,6 +15,12 @@ pub next-byte : (before : Filled) (bytes : List ℕ) (i : ℕ) → i < length by
 unfolding withBytes
 next-byte before bytes i inside =
     sym (ap (withBytes before) (drop-cons bytes i 0 inside ∙ ap (λ (n : ℕ). getD bytes i 0 ∷ drop n bytes) (sym (add-one i))))
+
+-- a text, and another behind it
+pub one-after-another : (before : Filled) (first second : List ℕ) → withBytes before (first ++ second) ≡ withBytes (withBytes before first) second
+unfolding withBytes
+one-after-another before [] second = refl
+one-after-another before (byte ∷ first) second = one-after-another (withByte before byte) first second
 
 byte-fits : (used : ℕ) (bytes : List ℕ) (byte : ℕ) → used < length bytes → withByte (filledBy used bytes) byte ≡ filledBy (suc used) (set bytes used byte)
 unfolding withByte

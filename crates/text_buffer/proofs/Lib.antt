@@ -1,1 +1,2 @@
-mod FillingLaws
+mod DecimalLaws
+pub mod FillingLaws

@@ -1,11 +1,9 @@
 -- A buffer of bytes, of which the first are in use, and text put behind those.
-use Prim.Native.Nat.{ℕ, _+_}
+use Prim.Native.Nat.{ℕ, zero, suc, _+_, _/_, _%_}
 use mathlib.Core.Bool.{cond}
-use mathlib.Core.List.{List, [], _∷_}
-use mathlib.Core.Path.{_≡_}
+use mathlib.Core.List.{List, [], _∷_, _++_}
 use lib.Dec.{ltb}
 use lib.ListN.{length, set}
-use Rattle.io.specs.Digits.{digits, Fewest}
 
 -- how many bytes are in use, and all the bytes
 pub record Filled : Type 0 where
@@ -26,11 +24,18 @@ unfoldable pub withBytes : Filled → List ℕ → Filled
 withBytes before [] = before
 withBytes before (byte ∷ rest) = withBytes (withByte before byte) rest
 
--- a number's decimal digits, as few as hold it
-pub record WithDecimal (before : Filled) (n : ℕ) (after : Filled) : Type 0 where
-  pub count : ℕ
-  pub fewest : Fewest 10 1 n count
-  pub put : after ≡ withBytes before (digits 10 count n)
+-- at most that many of a number's decimal digits, "0" to "9" as 48 to 57: the last one, behind those of the tenth part if there is one
+unfoldable pub decimalUpTo : ℕ → ℕ → List ℕ
+decimalUpTo zero n = []
+decimalUpTo (suc more) n = cond (ltb n 10) [] (decimalUpTo more (n / 10)) ++ ((48 + n % 10) ∷ [])
+
+-- a number in decimal, as few digits as hold it; it has no more digits than this
+unfoldable pub decimalOf : ℕ → List ℕ
+decimalOf n = decimalUpTo (suc n) n
+
+-- a space and a number
+unfoldable pub spaced : ℕ → List ℕ
+spaced n = 32 ∷ decimalOf n
 
 -- how many bytes are in use once there is room for a line: as many as before, or none, where the buffer had to be written
 unfoldable pub withRoom : ℕ → ℕ → ℕ → ℕ

@@ -3,7 +3,7 @@
 pub mod output;
 
 ghost use mathlib.Core.Path.{_≡_};
-ghost use Rattle.text_buffer.specs.Filling.{filledBy, withByte, withBytes, WithDecimal};
+ghost use Rattle.text_buffer.specs.Filling.{filledBy, withByte, withBytes, decimalOf, spaced};
 
 pub fn byte(filled: usize, buffer: &mut [u8], byte: u8) -> usize
     ensures { λ r. ⌜ filledBy r (now (buffer .exit)) ≡ withByte (filledBy filled (now (buffer .entry))) byte ⌝ }
@@ -29,7 +29,7 @@ pub fn text(filled: usize, buffer: &mut [u8], bytes: &[u8]) -> usize
 
 // A number in decimal digits.
 pub fn decimal(filled: usize, buffer: &mut [u8], n: u64) -> usize
-    ensures { λ r. ⌜ WithDecimal (filledBy filled (now (buffer .entry))) n (filledBy r (now (buffer .exit))) ⌝ }
+    ensures { λ r. ⌜ filledBy r (now (buffer .exit)) ≡ withBytes (filledBy filled (now (buffer .entry))) (decimalOf n) ⌝ }
 {
     let mut digits = [0u8; 20];
     let count = io::decimal(n, &mut digits);
@@ -38,7 +38,7 @@ pub fn decimal(filled: usize, buffer: &mut [u8], n: u64) -> usize
 
 // A space and a number.
 pub fn number(filled: usize, buffer: &mut [u8], n: u64) -> usize
-    ensures { λ r. ⌜ WithDecimal (withByte (filledBy filled (now (buffer .entry))) 32) n (filledBy r (now (buffer .exit))) ⌝ }
+    ensures { λ r. ⌜ filledBy r (now (buffer .exit)) ≡ withBytes (filledBy filled (now (buffer .entry))) (spaced n) ⌝ }
 {
     decimal(byte(filled, buffer, b' '), buffer, n)
 }

@@ -59,7 +59,7 @@ module _ (panel : Record) (reach index count : ℕ) (all : length (panel .counts
   abbrev stored : Changes
   stored = record { reach = reach; index = index; count = count }
 
-  pub record Made (made : Changes) : Type 0 where
+  record Made (made : Changes) : Type 0 where
     pub leaves-same : leaves panel made ≡ leaves panel stored
     pub between : made ≡ changesBetween panel (leaves panel stored)
 
@@ -88,7 +88,7 @@ module _ (panel : Record) (reach index count : ℕ) (all : length (panel .counts
             ∙ ap (λ (n : ℕ). record { reach = reach; index = n; count = countOf after n }) (sym found);
       }
 
-  pub made : Made (changesMade reach index (countOf panel index) count)
+  made : Made (changesMade reach index (countOf panel index) count)
   unfolding changesMade both countOf
   made = go (within 1 index 64) refl (eqb (countOf panel index) count) refl
     where
@@ -97,21 +97,18 @@ module _ (panel : Record) (reach index count : ℕ) (all : length (panel .counts
       go true w true e = uncounted (itself (panel .counts) index count (eqb-true (countOf panel index) count e))
       go false w same e = uncounted (outside (panel .counts) index count all w)
 
-  -- what a loop makes of its numbers at the end
-  pub told : (changes : Changes) (before after : ℕ) → before ≡ countOf panel index → after ≡ count → changes ≡ changesMade reach index before after → (leaves panel changes ≡ leaves panel stored) × (changes ≡ changesBetween panel (leaves panel changes))
-  told changes before after same-before same-after e =
-      let same = e ∙ (λ j. changesMade reach index (same-before j) (same-after j)) in
-      let left = ap (leaves panel) same ∙ made .leaves-same in
-      (left, same ∙ made .between ∙ ap (changesBetween panel) (sym left))
-
 -- ---- what an operation hands back that has ended
 ended-changes : (panel after : Record) (slots : List ℕ) (progress : Progress) → changesBetween panel after ≡ changesOf panel (outcome after slots (stepAnswer progress))
 unfolding changesOf
 ended-changes panel after slots continues = refl
 ended-changes panel after slots (finishes ending) = refl
 
-pub hands-back : (panel : Record) (changes : Changes) (stored : List ℕ) (progress : Progress) (written : Written) (whole : Outcome) → (paperWritten written ≡ stepAnswer progress) × (changesIn written ≡ changes) × ((any : Record) → recordAfter any written ≡ leaves any changes) → changes ≡ changesBetween panel (leaves panel changes) → outcome (leaves panel changes) stored (stepAnswer progress) ≡ whole → (outcome (recordAfter panel written) stored (paperWritten written) ≡ whole) × (changesIn written ≡ changesOf panel whole)
-hands-back panel changes stored progress written whole handed between same = (
-  (λ j. outcome (handed .2 panel j) stored (handed .0 j)) ∙ same,
-  handed .1 ∙ between ∙ ended-changes panel (leaves panel changes) stored progress ∙ ap (changesOf panel) same,
-)
+module _ (panel : Record) (changes : Changes) (before : ℕ) (stored : List ℕ) (progress : Progress) (written : Written) (whole : Outcome) where
+  pub hands-back : length (panel .counts) ≡ 64 → before ≡ countOf panel (changes .index) → (paperWritten written ≡ stepAnswer progress) × (changesIn written ≡ changesMade (changes .reach) (changes .index) before (changes .count)) × ((any : Record) → recordAfter any written ≡ leaves any (changesIn written)) → outcome (leaves panel changes) stored (stepAnswer progress) ≡ whole → (outcome (recordAfter panel written) stored (paperWritten written) ≡ whole) × (changesIn written ≡ changesOf panel whole)
+  hands-back all was handed same =
+      let m = made panel (changes .reach) (changes .index) (changes .count) all in
+      let numbers = handed .1 ∙ ap (λ (n : ℕ). changesMade (changes .reach) (changes .index) n (changes .count)) was in
+      let left = handed .2 panel ∙ ap (leaves panel) numbers ∙ m .leaves-same in (
+        (λ j. outcome (left j) stored (handed .0 j)) ∙ same,
+        numbers ∙ m .between ∙ ended-changes panel (leaves panel changes) stored progress ∙ ap (changesOf panel) same,
+      )

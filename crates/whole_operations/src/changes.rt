@@ -39,6 +39,7 @@ pub enum Written {
 
 // What the steps of an operation come to, and the work that is left where the budget was used up.
 pub(crate) struct Ran {
+    // with the index that was counted or uncounted, also where its count is as it was
     pub changes: Changes,
     pub progress: Progress,
     pub work: WriterWork,
@@ -62,7 +63,7 @@ pub fn has_changes(changes: Changes, reach: u32) -> bool
 
 // The changes of an operation that counted an index, or none where that is 0: on a record that no history
 // leads to the count may be at its end already, and then no count is another than before.
-pub(crate) fn changes_made(reach: u32, index: u32, before: u32, after: u32) -> Changes
+fn changes_made(reach: u32, index: u32, before: u32, after: u32) -> Changes
     ensures { λ r. ⌜ r ≡ changesMade reach index before after ⌝ }
 {
     if both_hold(is_within(1, index, 64), before != after) {
@@ -79,16 +80,17 @@ pub(crate) fn changes_made(reach: u32, index: u32, before: u32, after: u32) -> C
     }
 }
 
-// What an operation hands back that has ended.
-pub(crate) fn handed_back(changes: Changes, progress: Progress) -> Written
+// What an operation hands back that has ended, by the count of its index before.
+pub(crate) fn handed_back(changes: Changes, before: u32, progress: Progress) -> Written
     requires { ⌜ isUnderway (stepAnswer (paperProgress progress)) ≡ false ⌝ }
-    ensures { λ r. ⌜ (paperWritten r ≡ stepAnswer (paperProgress progress)) × (changesIn r ≡ changes) × ((panel : Record) → recordAfter panel r ≡ leaves panel changes) ⌝ }
+    ensures { λ r. ⌜ (paperWritten r ≡ stepAnswer (paperProgress progress)) × (changesIn r ≡ changesMade (changes .reach) (changes .index) before (changes .count)) × ((panel : Record) → recordAfter panel r ≡ leaves panel (changesIn r)) ⌝ }
 {
     match progress {
         Progress::Underway => Written::Refused(Refusal::Idle),
         Progress::Ended(ending) => {
+            let made = changes_made(changes.reach, changes.index, before, changes.count);
             Written::Done(Finished {
-                changes: changes,
+                changes: made,
                 ending: ending,
             })
         }

@@ -9,13 +9,13 @@ ghost use Rattle.record_ranges.specs.Ranges.{inRange};
 ghost use Rattle.answers.specs.Answers.{stepAnswer, paperProgress, isUnderway, outcome};
 ghost use Rattle.effects.specs.Effects.{paperEffect, updated};
 ghost use Rattle.writer.specs.Step.{writerAccess, writerAdvance};
-ghost use Rattle.whole_operations.specs.Whole.{untilEnded, writerStep, wholePut, leaves, changesBetween, changesOf, paperWritten, changesIn, recordAfter};
+ghost use Rattle.whole_operations.specs.Whole.{untilEnded, writerStep, wholePut, leaves, changesOf, paperWritten, changesIn, recordAfter};
 ghost use Rattle.whole_operations.specs.WholeFacts.{puts, indexCounted};
 use crate::budget::goes_on;
 use crate::budget::while_underway;
+use crate::changes::Changes;
 use crate::changes::Ran;
 use crate::changes::Written;
-use crate::changes::changes_made;
 use crate::changes::handed_back;
 use crate::searching::whole_search;
 use effects::counts::one_more;
@@ -95,7 +95,7 @@ fn index_counted(update: Update) -> u32
 // again.
 fn steps(panel: Record, slots: &mut [u64], begun: Effect, budget: u64) -> Ran
     requires { ⌜ (inRange (length (now slots)) (withWriter panel (begun .work)) ≡ true) × (isUnderway (stepAnswer (paperProgress (begun .progress))) ≡ not (isWriterIdle (begun .work))) × (puts (begun .work) ≡ true) ⌝ }
-    ensures { λ r. ⌜ (outcome (withWriter (leaves panel (r .changes)) (r .work)) (now (slots .exit)) (stepAnswer (paperProgress (r .progress))) ≡ untilEnded writerStep budget (outcome (withWriter panel (begun .work)) (now (slots .entry)) (stepAnswer (paperProgress (begun .progress))))) × (isUnderway (stepAnswer (paperProgress (r .progress))) ≡ not (isWriterIdle (r .work))) × (r .changes ≡ changesBetween panel (leaves panel (r .changes))) ⌝ }
+    ensures { λ r. ⌜ (outcome (withWriter (leaves panel (r .changes)) (r .work)) (now (slots .exit)) (stepAnswer (paperProgress (r .progress))) ≡ untilEnded writerStep budget (outcome (withWriter panel (begun .work)) (now (slots .entry)) (stepAnswer (paperProgress (begun .progress))))) × (isUnderway (stepAnswer (paperProgress (r .progress))) ≡ not (isWriterIdle (r .work))) ⌝ }
 {
     let mut reach = panel.reach;
     let mut index = 0;
@@ -114,7 +114,11 @@ fn steps(panel: Record, slots: &mut [u64], begun: Effect, budget: u64) -> Ran
         left = while_underway(left - 1, goes_on(progress));
     }
     Ran {
-        changes: changes_made(reach, index, count_of(panel, index), one_more(panel, index)),
+        changes: Changes {
+            reach: reach,
+            index: index,
+            count: one_more(panel, index),
+        },
         progress: progress,
         work: work,
     }
@@ -137,7 +141,7 @@ pub fn whole_put(panel: Record, slots: &mut [u64], point: u32, value: u32) -> Wr
             let ran = steps(panel, slots, put_answered(put, answer), budget);
             let changes = ran.changes;
             let progress = ran.progress;
-            handed_back(changes, progress)
+            handed_back(changes, count_of(panel, changes.index), progress)
         }
     }
 }

@@ -6,13 +6,13 @@ ghost use Rattle.record.specs.Parts.{withWriter};
 ghost use Rattle.record_ranges.specs.Ranges.{inRange};
 ghost use Rattle.answers.specs.Answers.{stepAnswer, paperProgress, isUnderway, outcome};
 ghost use Rattle.record.specs.Idle.{isWriterIdle};
-ghost use Rattle.whole_operations.specs.Whole.{untilEnded, writerStep, wholeRemoval, leaves, changesBetween, changesOf, paperWritten, changesIn, recordAfter};
+ghost use Rattle.whole_operations.specs.Whole.{untilEnded, writerStep, wholeRemoval, leaves, changesOf, paperWritten, changesIn, recordAfter};
 ghost use Rattle.whole_operations.specs.WholeFacts.{indexUncounted, removes};
 use crate::budget::goes_on;
 use crate::budget::while_underway;
+use crate::changes::Changes;
 use crate::changes::Ran;
 use crate::changes::Written;
-use crate::changes::changes_made;
 use crate::changes::handed_back;
 use crate::searching::whole_search;
 use effects::memory::perform;
@@ -49,7 +49,7 @@ fn index_uncounted(index: u32, update: Update) -> u32
 // judge it again.
 fn steps(panel: Record, slots: &mut [u64], begun: Effect, budget: u64) -> Ran
     requires { ⌜ (inRange (length (now slots)) (withWriter panel (begun .work)) ≡ true) × (isUnderway (stepAnswer (paperProgress (begun .progress))) ≡ not (isWriterIdle (begun .work))) × (removes (begun .work) ≡ true) ⌝ }
-    ensures { λ r. ⌜ (outcome (withWriter (leaves panel (r .changes)) (r .work)) (now (slots .exit)) (stepAnswer (paperProgress (r .progress))) ≡ untilEnded writerStep budget (outcome (withWriter panel (begun .work)) (now (slots .entry)) (stepAnswer (paperProgress (begun .progress))))) × (isUnderway (stepAnswer (paperProgress (r .progress))) ≡ not (isWriterIdle (r .work))) × (r .changes ≡ changesBetween panel (leaves panel (r .changes))) ⌝ }
+    ensures { λ r. ⌜ (outcome (withWriter (leaves panel (r .changes)) (r .work)) (now (slots .exit)) (stepAnswer (paperProgress (r .progress))) ≡ untilEnded writerStep budget (outcome (withWriter panel (begun .work)) (now (slots .entry)) (stepAnswer (paperProgress (begun .progress))))) × (isUnderway (stepAnswer (paperProgress (r .progress))) ≡ not (isWriterIdle (r .work))) ⌝ }
 {
     let mut held = panel;
     let mut index = 0;
@@ -70,12 +70,11 @@ fn steps(panel: Record, slots: &mut [u64], begun: Effect, budget: u64) -> Ran
         left = while_underway(left - 1, goes_on(progress));
     }
     Ran {
-        changes: changes_made(
-            held.reach,
-            index,
-            count_of(panel, index),
-            count_of(held, index),
-        ),
+        changes: Changes {
+            reach: held.reach,
+            index: index,
+            count: count_of(held, index),
+        },
         progress: progress,
         work: work,
     }
@@ -97,7 +96,7 @@ pub fn whole_removal(panel: Record, slots: &mut [u64], point: u32) -> Written
             let ran = steps(panel, slots, removal_answered(removal, answer), budget);
             let changes = ran.changes;
             let progress = ran.progress;
-            handed_back(changes, progress)
+            handed_back(changes, count_of(panel, changes.index), progress)
         }
     }
 }

@@ -2,6 +2,7 @@
 use mathlib.Core.Path.{ap, _∙_}
 use denote.Ref.{now}
 use Rattle.text_buffer.specs.Filling.{filledBy, withBytes}
+use Rattle.text_buffer.proofs.DecimalLaws.{decimal-digits}
 use borrow.Author.Needs.{needs}
 use Rattle.text_buffer.proofs.decimal.Statement.{statement}
 use Rattle.text_buffer.proofs.decimal.Tie as tie
@@ -25,11 +26,8 @@ returns : tie.Need-returns
 returns c =
     let a = c .before .before .before .before .before .before .before .before .args in
     let spelt = c .before .before .before .before .before .decimal in
-    record {
-      count = spelt .result;
-      fewest = spelt .ensures .1 .0;
-      put = c .before .before .text .ensures ∙ ap (withBytes (filledBy (a .filled) (now (a .buffer)))) (spelt .ensures .1 .1);
-    }
+    c .before .before .text .ensures
+    ∙ ap (withBytes (filledBy (a .filled) (now (a .buffer)))) (spelt .ensures .1 .1 ∙ decimal-digits (spelt .result) (a .n) (spelt .ensures .1 .0))
 
 pub decimal-spec : {M : Type 1} → statement M
 decimal-spec =

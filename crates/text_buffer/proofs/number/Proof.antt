@@ -1,6 +1,6 @@
 -- `text_buffer::number` meets its contract: the digits behind the space.
-use mathlib.Core.Path.{subst}
-use Rattle.text_buffer.specs.Filling.{Filled, filledBy, WithDecimal}
+use mathlib.Core.Path.{_∙_, ap}
+use Rattle.text_buffer.specs.Filling.{Filled, withBytes, decimalOf, spaced}
 use borrow.Author.Needs.{needs}
 use Rattle.text_buffer.proofs.number.Statement.{statement}
 use Rattle.text_buffer.proofs.number.Tie as tie
@@ -15,10 +15,10 @@ same-length : tie.Need-same-length
 same-length c = search needs
 
 returns : tie.Need-returns
+unfolding withBytes spaced
 returns c =
     let a = c .before .before .before .before .before .before .before .before .before .args in
-    let done = c .before .before .decimal in
-    subst (λ (before : Filled). WithDecimal before (a .n) (filledBy (done .result) (done .last .1 .0))) (c .before .before .before .before .before .before .byte .ensures) (done .ensures)
+    c .before .before .decimal .ensures ∙ ap (λ (before : Filled). withBytes before (decimalOf (a .n))) (c .before .before .before .before .before .before .byte .ensures)
 
 pub number-spec : {M : Type 1} → statement M
 number-spec = tie.close (tie.spec byte-requires decimal-requires same-length returns)

@@ -13,12 +13,15 @@ enum-told c = search needs
 enum-known-progress : tie.Need-enum-known-progress
 enum-known-progress c = search needs
 
+changes-made-requires : tie.Need-changes-made-requires
+changes-made-requires c κs = search needs
+
 returns : tie.Need-returns
 returns c = absurd (false≢true (sym (c .before .before .pre) ∙ ap (λ (p : Progress). isUnderway (stepAnswer (paperProgress p))) (c .enum-told .given .1)))
 
 returns-2 : tie.Need-returns-2
 returns-2 c =
-    (sym (ap (λ (p : Progress). stepAnswer (paperProgress p)) (c .before .progress .given .1)), refl, λ panel. refl)
+    (sym (ap (λ (p : Progress). stepAnswer (paperProgress p)) (c .before .before .progress .given .1)), c .changes-made .ensures, λ panel. refl)
 
 pub handed-back-spec : {M : Type 1} → statement M
-handed-back-spec = tie.close (tie.spec enum-told enum-known-progress returns returns-2)
+handed-back-spec = tie.close (tie.spec enum-told enum-known-progress changes-made-requires returns returns-2)

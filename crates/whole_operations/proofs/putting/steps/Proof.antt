@@ -1,21 +1,18 @@
 -- `whole_operations::putting::steps` meets its contract: what is left to do from here comes to the same as the whole, for the record with the reach and
 -- the index that are kept beside it.
-use Prim.Native.Nat.{_-_, _≤_}
+use Prim.Native.Nat.{ℕ, _-_, _≤_}
 use mathlib.Core.Bool.{Bool, true, cond}
 use mathlib.Core.Path.{_≡_, refl, _∙_, ap}
 use native.Mathlib.Omega.{arith}
 use lib.ListN.{length}
 use borrow.Author.Needs.{needs}
-use Rattle.record.specs.declared.Record.{Record}
 use Rattle.record.specs.Parts.{withReach, withNumbered, withCounts, withCount, withWriter, countOf}
-use Rattle.record.proofs.Numbered.{mapped-length}
 use Rattle.answers.specs.Answers.{stepAnswer, paperProgress, isUnderway, outcome}
-use Rattle.effects.specs.Counts.{oneMore, counted}
+use Rattle.effects.specs.Counts.{counted}
 use Rattle.effects.specs.Effects.{paperEffect}
 use Rattle.writer.proofs.WriterLaws.{slots-length, AtWork}
 use Rattle.whole_operations.specs.Whole.{writerStep, leaves}
 use Rattle.whole_operations.specs.WholeFacts.{puts}
-use Rattle.whole_operations.proofs.ChangesMade.{told}
 use Rattle.whole_operations.proofs.WholeLaws.{fewer, still, OnTheWay, sets-out, arrives, steps-on}
 use Rattle.whole_operations.proofs.WholeEnds.{stays-at-work}
 use Rattle.whole_operations.proofs.Puts.{effect-adds, step-kept}
@@ -101,29 +98,20 @@ loop-again c =
       adds .same-kind,
     )
 
-count-of-requires : tie.Need-count-of-requires Inv-loop μ-loop
-count-of-requires c κs = search needs
-
 one-more-requires : tie.Need-one-more-requires Inv-loop μ-loop
 one-more-requires c κs = search needs
 
-changes-made-requires : tie.Need-changes-made-requires Inv-loop μ-loop
-changes-made-requires c κs = search needs
-
 same-length : tie.Need-same-length Inv-loop μ-loop
-same-length c = c .before .before .before .before .loop .inv .0
+same-length c = c .before .before .loop .inv .0
 
 returns : tie.Need-returns Inv-loop μ-loop
 unfolding leaves counted withReach withWriter withCount withCounts countOf
 returns c =
-    let a = c .before .before .before .before .before .before .before .before .args in
-    let l = c .before .before .before .before .loop in
-    let all = mapped-length (a .panel .counts) _ 64 (c .before .before .before .before .before .before .before .before .good .0 .1 .1 .1 .1 .1 .0 .1 .0 .1) in
-    let ended = told (a .panel) (l .reach) (l .index) (oneMore (a .panel) (l .index)) all (c .changes-made .result) _ _ (c .before .before .count-of .ensures) (c .before .one-more .ensures) (c .changes-made .ensures) in (
-      ap (λ (r : Record). outcome (withWriter r (l .work)) (l .slots) (stepAnswer (paperProgress (l .progress)))) (ended .0)
-          ∙ arrives writerStep AtWork stays-at-work _ _ (l .left) _ (l .inv .1) (omega (arith, c .before .before .before .loop-test)),
+    let a = c .before .before .before .before .before .before .args in
+    let l = c .before .before .loop in (
+      ap (λ (count : ℕ). outcome (withWriter (withCount (withReach (a .panel) (l .reach)) (l .index) count) (l .work)) (l .slots) (stepAnswer (paperProgress (l .progress)))) (c .one-more .ensures)
+          ∙ arrives writerStep AtWork stays-at-work _ _ (l .left) _ (l .inv .1) (omega (arith, c .before .loop-test)),
       l .inv .1 .holds .busy,
-      ended .1,
     )
 
 pub steps-spec : {M : Type 1} → statement M
@@ -146,8 +134,6 @@ steps-spec =
     while-underway-requires-2
     loop-less
     loop-again
-    count-of-requires
     one-more-requires
-    changes-made-requires
     same-length
     returns)

@@ -10,6 +10,7 @@ use Rattle.record.specs.declared.Put.{Put}
 use Rattle.record.specs.declared.PutStage.the-variants.{Searching}
 use Rattle.record.specs.declared.WriterWork.the-variants.{Putting}
 use Rattle.record.specs.Parts.{withReach, withCounts, withCount, withWriter}
+use Rattle.record.proofs.Numbered.{mapped-length}
 use Rattle.answers.specs.Answers.{paperProgress}
 use Rattle.effects.specs.Effects.{WriterEffect}
 use Rattle.put.specs.Put.{putAnswered}
@@ -62,15 +63,18 @@ steps-requires c κs =
     let held = effect-at-work (a .panel) s (a .point) (Putting put) (2 * a .panel .k + 2) e (omega arith) refl (λ answer. answered-puts put answer .0) refl refl (put-begins (a .panel) s (a .point) (a .value)) (whole-put-ends (a .panel) s (a .point) (a .value)) _ effect in
     (held .fits, held .busy, ap (λ (m : WriterEffect). puts (m .work)) effect ∙ answered-puts put _ .1)
 
+count-of-requires : tie.Need-count-of-requires
+count-of-requires c κs = search needs
+
 handed-back-requires : tie.Need-handed-back-requires
 unfolding wholePut startPut leaves withReach withCount withCounts searchingBy pointOfWork answeredBy
 handed-back-requires c κs =
-    let a = c .before .before .before .before .before .before .before .before .before .before .before .before .before .args in
+    let a = c .before .before .before .before .before .before .before .before .before .before .before .before .before .before .args in
     let s = now (a .slots) in
     let put : Put = record { point = a .point; value = a .value; stage = Searching Unread } in
-    let e = sym (c .before .before .before .before .before .before .before .before .before .before .judge-start .ensures) ∙ ap paperJudged (c .before .before .before .before .before .before .before .before .enum-told .given .1) in
-    let effect = c .before .before .before .before .put-answered .ensures ∙ ap (putAnswered put) (c .before .before .before .before .before .before .whole-search .ensures) in
-    let ran = c .before .before .before .steps .ensures in
+    let e = sym (c .before .before .before .before .before .before .before .before .before .before .before .judge-start .ensures) ∙ ap paperJudged (c .before .before .before .before .before .before .before .before .before .enum-told .given .1) in
+    let effect = c .before .before .before .before .before .put-answered .ensures ∙ ap (putAnswered put) (c .before .before .before .before .before .before .before .whole-search .ensures) in
+    let ran = c .before .before .before .before .steps .ensures in
     has-answer (a .panel) s (a .point) (Putting put) (2 * a .panel .k + 2) e (omega arith) refl (λ answer. answered-puts put answer .0) refl refl (put-begins (a .panel) s (a .point) (a .value)) (whole-put-ends (a .panel) s (a .point) (a .value)) _ effect _ _ _ _ refl (ran .1) (ran .0)
 
 returns : tie.Need-returns
@@ -88,13 +92,15 @@ same-length c = search needs
 returns-2 : tie.Need-returns-2
 unfolding wholePut startPut leaves withReach withCount withCounts searchingBy pointOfWork answeredBy
 returns-2 c =
-    let a = c .before .before .before .before .before .before .before .before .before .before .before .before .before .before .args in
+    let a = c .before .before .before .before .before .before .before .before .before .before .before .before .before .before .before .args in
     let s = now (a .slots) in
     let put : Put = record { point = a .point; value = a .value; stage = Searching Unread } in
-    let e = sym (c .before .before .before .before .before .before .before .before .before .before .before .judge-start .ensures) ∙ ap paperJudged (c .before .before .before .before .before .before .before .before .before .enum-told .given .1) in
-    let effect = c .before .before .before .before .before .put-answered .ensures ∙ ap (putAnswered put) (c .before .before .before .before .before .before .before .whole-search .ensures) in
-    let ran = c .before .before .before .before .steps .ensures in
-    hands-back (a .panel) (c .before .before .before .before .steps .result .changes) _ (paperProgress (c .before .before .before .before .steps .result .progress)) (c .handed-back .result) (wholePut (a .panel) s (a .point) (a .value)) (c .handed-back .ensures) (ran .2)
+    let e = sym (c .before .before .before .before .before .before .before .before .before .before .before .before .judge-start .ensures) ∙ ap paperJudged (c .before .before .before .before .before .before .before .before .before .before .enum-told .given .1) in
+    let effect = c .before .before .before .before .before .before .put-answered .ensures ∙ ap (putAnswered put) (c .before .before .before .before .before .before .before .before .whole-search .ensures) in
+    let ran = c .before .before .before .before .before .steps .ensures in
+    let all = mapped-length (a .panel .counts) _ 64 (c .before .before .before .before .before .before .before .before .before .before .before .before .before .before .before .good .0 .1 .1 .1 .1 .1 .0 .1 .0 .1) in
+    let given = c .before .before .before .before .before .steps .result in
+    hands-back (a .panel) (given .changes) (c .before .count-of .result) _ (paperProgress (given .progress)) (c .handed-back .result) (wholePut (a .panel) s (a .point) (a .value)) all (c .before .count-of .ensures) (c .handed-back .ensures)
     (whole-ended (a .panel) s (a .point) (Putting put) (2 * a .panel .k + 2) e (omega arith) refl (λ answer. answered-puts put answer .0) refl refl (put-begins (a .panel) s (a .point) (a .value)) (whole-put-ends (a .panel) s (a .point) (a .value)) _ effect _ _ _ _ refl (ran .1) (ran .0))
 
 pub whole-put-spec : {M : Type 1} → statement M
@@ -110,6 +116,7 @@ whole-put-spec =
     whole-search-requires
     put-answered-requires
     steps-requires
+    count-of-requires
     handed-back-requires
     returns
     same-length

@@ -1,6 +1,6 @@
 -- `whole_operations::removing::steps` meets its contract: what is left to do from here comes to the same as the whole, and the record held is the first
 -- one but for the reach and one count.
-use Prim.Native.Nat.{_-_}
+use Prim.Native.Nat.{ℕ, _-_}
 use mathlib.Core.Bool.{Bool, cond}
 use mathlib.Core.Logic.{⊎-elim}
 use mathlib.Core.Path.{_≡_, refl, _∙_, sym, ap, transport}
@@ -8,14 +8,12 @@ use native.Mathlib.Omega.{arith}
 use lib.ListN.{length}
 use borrow.Author.Needs.{needs}
 use Rattle.record.specs.declared.Record.{Record}
-use Rattle.record.specs.Parts.{countOf, withWriter}
-use Rattle.record.proofs.Numbered.{mapped-length}
+use Rattle.record.specs.Parts.{withReach, withCount, withWriter}
 use Rattle.answers.specs.Answers.{stepAnswer, paperProgress, outcome}
 use Rattle.effects.specs.Effects.{WriterEffect, updated, paperEffect}
 use Rattle.writer.proofs.WriterLaws.{slots-length, AtWork, works}
 use Rattle.whole_operations.specs.Whole.{writerStep, leaves}
 use Rattle.whole_operations.specs.WholeFacts.{indexUncounted}
-use Rattle.whole_operations.proofs.ChangesMade.{told}
 use Rattle.whole_operations.proofs.WholeLaws.{fewer, OnTheWay, sets-out, arrives, steps-on}
 use Rattle.whole_operations.proofs.WholeEnds.{stays-at-work}
 use Rattle.whole_operations.proofs.WorkBeside.{step-beside}
@@ -24,14 +22,14 @@ use Rattle.whole_operations.proofs.removing.steps.Statement.{statement}
 use Rattle.whole_operations.proofs.removing.steps.Tie as tie
 
 abbrev Inv-loop : tie.InvT-loop
-Inv-loop panel slots₀ budget held₀ index₀ work₀ progress₀ left₀ slots held index work progress left =
+Inv-loop slots₀ budget held₀ index₀ work₀ progress₀ left₀ slots held index work progress left =
     (length slots ≡ length slots₀)
     × OnTheWay writerStep AtWork (outcome (withWriter held₀ work₀) slots₀ (stepAnswer (paperProgress progress₀))) budget left
     (outcome (withWriter held work) slots (stepAnswer (paperProgress progress)))
     × Kept held₀ held index work
 
 abbrev μ-loop : tie.MeasureT-loop
-μ-loop panel slots₀ budget held₀ index₀ work₀ progress₀ left₀ slots held index work progress left = left
+μ-loop slots₀ budget held₀ index₀ work₀ progress₀ left₀ slots held index work progress left = left
 
 goes-on-requires : tie.Need-goes-on-requires Inv-loop μ-loop
 goes-on-requires c κs = search needs
@@ -113,26 +111,18 @@ loop-again c =
 count-of-requires : tie.Need-count-of-requires Inv-loop μ-loop
 count-of-requires c κs = search needs
 
-count-of-requires-2 : tie.Need-count-of-requires-2 Inv-loop μ-loop
-count-of-requires-2 c κs = search needs
-
-changes-made-requires : tie.Need-changes-made-requires Inv-loop μ-loop
-changes-made-requires c κs = search needs
-
 same-length : tie.Need-same-length Inv-loop μ-loop
-same-length c = c .before .before .before .before .loop .inv .0
+same-length c = c .before .before .loop .inv .0
 
 returns : tie.Need-returns Inv-loop μ-loop
 unfolding leaves withWriter
 returns c =
-    let a = c .before .before .before .before .before .before .before .before .args in
-    let l = c .before .before .before .before .loop in
-    let all = mapped-length (a .panel .counts) _ 64 (c .before .before .before .before .before .before .before .before .good .0 .1 .1 .1 .1 .1 .0 .1 .0 .1) in
-    let ended = told (a .panel) (l .held .reach) (l .index) (countOf (l .held) (l .index)) all (c .changes-made .result) _ _ (c .before .before .count-of .ensures) (c .before .count-of2 .ensures) (c .changes-made .ensures) in (
-      ap (λ (r : Record). outcome (withWriter r (l .work)) (l .slots) (stepAnswer (paperProgress (l .progress)))) (ended .0 ∙ sym (l .inv .2 .same))
-          ∙ arrives writerStep AtWork stays-at-work _ _ (l .left) _ (l .inv .1) (omega (arith, c .before .before .before .loop-test)),
+    let a = c .before .before .before .before .before .before .args in
+    let l = c .before .before .loop in
+    let held = l .inv .2 .same ∙ ap (λ (count : ℕ). withCount (withReach (a .panel) (l .held .reach)) (l .index) count) (sym (c .count-of .ensures)) in (
+      ap (λ (r : Record). outcome (withWriter r (l .work)) (l .slots) (stepAnswer (paperProgress (l .progress)))) (sym held)
+          ∙ arrives writerStep AtWork stays-at-work _ _ (l .left) _ (l .inv .1) (omega (arith, c .before .loop-test)),
       l .inv .1 .holds .busy,
-      ended .1,
     )
 
 pub steps-spec : {M : Type 1} → statement M
@@ -157,7 +147,5 @@ steps-spec =
     loop-less
     loop-again
     count-of-requires
-    count-of-requires-2
-    changes-made-requires
     same-length
     returns)

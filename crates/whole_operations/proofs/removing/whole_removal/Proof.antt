@@ -10,6 +10,7 @@ use Rattle.record.specs.declared.Removal.{Removal}
 use Rattle.record.specs.declared.RemovalStage.the-variants.{Searching}
 use Rattle.record.specs.declared.WriterWork.the-variants.{Removing}
 use Rattle.record.specs.Parts.{withReach, withCounts, withCount, withWriter}
+use Rattle.record.proofs.Numbered.{mapped-length}
 use Rattle.answers.specs.Answers.{paperProgress}
 use Rattle.effects.specs.Effects.{WriterEffect}
 use Rattle.removal.specs.Removal.{removalAnswered}
@@ -59,15 +60,18 @@ steps-requires c κs =
     let held = effect-at-work (a .panel) s (a .point) (Removing removal) (a .panel .k + 3) e (omega arith) refl (λ answer. answered-removes removal answer .0) refl refl (removal-begins (a .panel) s (a .point)) (whole-removal-ends (a .panel) s (a .point)) _ effect in
     (held .fits, held .busy, ap (λ (m : WriterEffect). removes (m .work)) effect ∙ answered-removes removal _ .1)
 
+count-of-requires : tie.Need-count-of-requires
+count-of-requires c κs = search needs
+
 handed-back-requires : tie.Need-handed-back-requires
 unfolding wholeRemoval startRemoval leaves withReach withCount withCounts searchingBy pointOfWork answeredBy
 handed-back-requires c κs =
-    let a = c .before .before .before .before .before .before .before .before .before .before .before .before .before .args in
+    let a = c .before .before .before .before .before .before .before .before .before .before .before .before .before .before .args in
     let s = now (a .slots) in
     let removal : Removal = record { point = a .point; stage = Searching Unread } in
-    let e = sym (c .before .before .before .before .before .before .before .before .before .before .judge-start .ensures) ∙ ap paperJudged (c .before .before .before .before .before .before .before .before .enum-told .given .1) in
-    let effect = c .before .before .before .before .removal-answered .ensures ∙ ap (removalAnswered removal) (c .before .before .before .before .before .before .whole-search .ensures) in
-    let ran = c .before .before .before .steps .ensures in
+    let e = sym (c .before .before .before .before .before .before .before .before .before .before .before .judge-start .ensures) ∙ ap paperJudged (c .before .before .before .before .before .before .before .before .before .enum-told .given .1) in
+    let effect = c .before .before .before .before .before .removal-answered .ensures ∙ ap (removalAnswered removal) (c .before .before .before .before .before .before .before .whole-search .ensures) in
+    let ran = c .before .before .before .before .steps .ensures in
     has-answer (a .panel) s (a .point) (Removing removal) (a .panel .k + 3) e (omega arith) refl (λ answer. answered-removes removal answer .0) refl refl (removal-begins (a .panel) s (a .point)) (whole-removal-ends (a .panel) s (a .point)) _ effect _ _ _ _ refl (ran .1) (ran .0)
 
 returns : tie.Need-returns
@@ -85,13 +89,15 @@ same-length c = search needs
 returns-2 : tie.Need-returns-2
 unfolding wholeRemoval startRemoval leaves withReach withCount withCounts searchingBy pointOfWork answeredBy
 returns-2 c =
-    let a = c .before .before .before .before .before .before .before .before .before .before .before .before .before .before .args in
+    let a = c .before .before .before .before .before .before .before .before .before .before .before .before .before .before .before .args in
     let s = now (a .slots) in
     let removal : Removal = record { point = a .point; stage = Searching Unread } in
-    let e = sym (c .before .before .before .before .before .before .before .before .before .before .before .judge-start .ensures) ∙ ap paperJudged (c .before .before .before .before .before .before .before .before .before .enum-told .given .1) in
-    let effect = c .before .before .before .before .before .removal-answered .ensures ∙ ap (removalAnswered removal) (c .before .before .before .before .before .before .before .whole-search .ensures) in
-    let ran = c .before .before .before .before .steps .ensures in
-    hands-back (a .panel) (c .before .before .before .before .steps .result .changes) _ (paperProgress (c .before .before .before .before .steps .result .progress)) (c .handed-back .result) (wholeRemoval (a .panel) s (a .point)) (c .handed-back .ensures) (ran .2)
+    let e = sym (c .before .before .before .before .before .before .before .before .before .before .before .before .judge-start .ensures) ∙ ap paperJudged (c .before .before .before .before .before .before .before .before .before .before .enum-told .given .1) in
+    let effect = c .before .before .before .before .before .before .removal-answered .ensures ∙ ap (removalAnswered removal) (c .before .before .before .before .before .before .before .before .whole-search .ensures) in
+    let ran = c .before .before .before .before .before .steps .ensures in
+    let all = mapped-length (a .panel .counts) _ 64 (c .before .before .before .before .before .before .before .before .before .before .before .before .before .before .before .good .0 .1 .1 .1 .1 .1 .0 .1 .0 .1) in
+    let given = c .before .before .before .before .before .steps .result in
+    hands-back (a .panel) (given .changes) (c .before .count-of .result) _ (paperProgress (given .progress)) (c .handed-back .result) (wholeRemoval (a .panel) s (a .point)) all (c .before .count-of .ensures) (c .handed-back .ensures)
     (whole-ended (a .panel) s (a .point) (Removing removal) (a .panel .k + 3) e (omega arith) refl (λ answer. answered-removes removal answer .0) refl refl (removal-begins (a .panel) s (a .point)) (whole-removal-ends (a .panel) s (a .point)) _ effect _ _ _ _ refl (ran .1) (ran .0))
 
 pub whole-removal-spec : {M : Type 1} → statement M
@@ -106,6 +112,7 @@ whole-removal-spec =
     whole-search-requires
     removal-answered-requires
     steps-requires
+    count-of-requires
     handed-back-requires
     returns
     same-length

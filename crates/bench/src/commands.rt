@@ -1,4 +1,12 @@
 // The lines behind the first, each run to its end.
+ghost use mathlib.Core.Path.{_≡_};
+ghost use lib.ListN.{length};
+ghost use Rattle.record.specs.declared.Record.{Record};
+ghost use Rattle.whole_operations.specs.Whole.{leaves, paperWritten, recordAfter};
+ghost use Rattle.line.specs.LineState.{commandOf};
+ghost use Rattle.text_buffer.specs.Filling.{filledBy, withBytes, withRoom};
+ghost use Rattle.bench.specs.Printed.{operationLine};
+ghost use Rattle.bench.specs.Lines.{Runs};
 use crate::printing;
 use answers::WholeAnswer;
 use line::CommandLine;
@@ -17,7 +25,9 @@ pub(crate) struct Done {
 }
 
 // What leaves the record as it is.
-fn unchanged(reach: u32, filled: usize) -> Done {
+fn unchanged(reach: u32, filled: usize) -> Done
+    ensures { λ r. ⌜ ((panel : Record) → panel .reach ≡ reach → leaves panel (r .changes) ≡ panel) × (r .filled ≡ filled) ⌝ }
+{
     Done {
         changes: Changes {
             reach: reach,
@@ -36,7 +46,9 @@ fn wrote(
     letter: u8,
     point: u32,
     written: Written,
-) -> Done {
+) -> Done
+    ensures { λ r. ⌜ ((panel : Record) → panel .reach ≡ reach → leaves panel (r .changes) ≡ recordAfter panel written) × (filledBy (r .filled) (now (text .exit)) ≡ withBytes (filledBy filled (now (text .entry))) (operationLine letter point (paperWritten written))) ⌝ }
+{
     match written {
         Written::Refused(refusal) => {
             let answer = WholeAnswer::Refused(refusal);
@@ -65,7 +77,9 @@ pub(crate) fn run_line(
     number: u64,
     held: usize,
     text: &mut [u8],
-) -> Done {
+) -> Done
+    ensures { λ r. ⌜ Runs panel (now (slots .entry)) (commandOf line) number (filledBy (withRoom held (length (now (text .entry))) 128) (now (text .entry))) (r .changes) (now (slots .exit)) (filledBy (r .filled) (now (text .exit))) ⌝ }
+{
     let reach = panel.reach;
     let filled = printing::room(held, text);
     match line::command_of(line) {

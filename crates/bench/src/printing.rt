@@ -1,4 +1,10 @@
 // The printed lines. Each function gives how much of the buffer is in use.
+ghost use mathlib.Core.Path.{_≡_};
+ghost use lib.ListN.{length};
+ghost use Rattle.refusal.specs.Refusals.{numberOf};
+ghost use Rattle.answers.specs.Answers.{paperEnding, paperWhole};
+ghost use Rattle.text_buffer.specs.Filling.{filledBy, withBytes, withRoom};
+ghost use Rattle.bench.specs.Printed.{refusalShown, endingShown, operationLine, unreadableLine, panelLine, lastLine};
 use answers::Ending;
 use answers::WholeAnswer;
 use refusal::Refusal;
@@ -11,28 +17,39 @@ use text_buffer::text;
 const LINE: usize = 128;
 
 // Makes room for a line.
-pub(crate) fn room(filled: usize, out: &[u8]) -> usize {
+pub(crate) fn room(filled: usize, out: &[u8]) -> usize
+    ensures { λ r. ⌜ r ≡ withRoom filled (length (now (out .entry))) 128 ⌝ }
+{
     text_buffer::output::room(filled, out, LINE)
 }
 
-pub(crate) fn panel(filled: usize, out: &mut [u8], m: u32, k: u32) -> usize {
+// "The first line shows m and k".
+pub(crate) fn panel(filled: usize, out: &mut [u8], m: u32, k: u32) -> usize
+    ensures { λ r. ⌜ filledBy r (now (out .exit)) ≡ withBytes (filledBy filled (now (out .entry))) (panelLine m k) ⌝ }
+{
     let named = text(filled, out, b"panel");
     let sized = number(named, out, m as u64);
     line_end(number(sized, out, k as u64), out)
 }
 
 // "A line it cannot read prints "?", a space and the line's number".
-pub(crate) fn unreadable(filled: usize, out: &mut [u8], line: u64) -> usize {
+pub(crate) fn unreadable(filled: usize, out: &mut [u8], line: u64) -> usize
+    ensures { λ r. ⌜ filledBy r (now (out .exit)) ≡ withBytes (filledBy filled (now (out .entry))) (unreadableLine line) ⌝ }
+{
     line_end(number(text(filled, out, b"?"), out, line), out)
 }
 
 // ""!" and a number a refusal, in place of what follows the point".
-fn refused(filled: usize, out: &mut [u8], refusal: Refusal) -> usize {
+fn refused(filled: usize, out: &mut [u8], refusal: Refusal) -> usize
+    ensures { λ r. ⌜ filledBy r (now (out .exit)) ≡ withBytes (filledBy filled (now (out .entry))) (refusalShown (numberOf refusal)) ⌝ }
+{
     number(text(filled, out, b" !"), out, refusal.number() as u64)
 }
 
 // "P shows point, slot, index"; "L point and value"; "R point and reach after".
-fn ended(filled: usize, out: &mut [u8], ending: Ending) -> usize {
+fn ended(filled: usize, out: &mut [u8], ending: Ending) -> usize
+    ensures { λ r. ⌜ filledBy r (now (out .exit)) ≡ withBytes (filledBy filled (now (out .entry))) (endingShown (paperEnding ending)) ⌝ }
+{
     match ending {
         Ending::LookedUp(value) => number(filled, out, value as u64),
         Ending::Placed(spot) => {
@@ -53,7 +70,9 @@ pub(crate) fn operation(
     letter: u8,
     point: u32,
     answer: WholeAnswer,
-) -> usize {
+) -> usize
+    ensures { λ r. ⌜ filledBy r (now (out .exit)) ≡ withBytes (filledBy filled (now (out .entry))) (operationLine letter point (paperWhole answer)) ⌝ }
+{
     let named = number(byte(filled, out, letter), out, point as u64);
     match answer {
         WholeAnswer::Ended(ending) => line_end(ended(named, out, ending), out),
@@ -62,7 +81,9 @@ pub(crate) fn operation(
 }
 
 // "the last, at the end of input, the reach and the number of stored points".
-pub(crate) fn finish(filled: usize, out: &mut [u8], reach: u32, points: u64) -> usize {
+pub(crate) fn finish(filled: usize, out: &mut [u8], reach: u32, points: u64) -> usize
+    ensures { λ r. ⌜ filledBy r (now (out .exit)) ≡ withBytes (filledBy filled (now (out .entry))) (lastLine reach points) ⌝ }
+{
     let reached = number(text(filled, out, b"reach"), out, reach as u64);
     line_end(number(text(reached, out, b" points"), out, points), out)
 }

@@ -22,6 +22,14 @@ unfolding withBytes
 one-after-another before [] second = refl
 one-after-another before (byte ∷ first) second = one-after-another (withByte before byte) first second
 
+pub behind : {middle after : Filled} (before : Filled) (first second : List ℕ) → middle ≡ withBytes before first → after ≡ withBytes middle second → after ≡ withBytes before (first ++ second)
+behind before first second e f = f ∙ ap (λ (b : Filled). withBytes b second) e ∙ sym (one-after-another before first second)
+
+-- one byte is a text too
+pub one-byte : {after : Filled} (before : Filled) (byte : ℕ) → after ≡ withByte before byte → after ≡ withBytes before (byte ∷ [])
+unfolding withBytes
+one-byte before byte e = e
+
 byte-fits : (used : ℕ) (bytes : List ℕ) (byte : ℕ) → used < length bytes → withByte (filledBy used bytes) byte ≡ filledBy (suc used) (set bytes used byte)
 unfolding withByte
 byte-fits used bytes byte room =

@@ -1,6 +1,6 @@
 -- `whole_operations::changes::changes_made` meets its contract: its test is the definition's.
 use mathlib.Core.Bool.{Bool, true, false, not}
-use mathlib.Core.Path.{_≡_, sym, ap, _∙_}
+use mathlib.Core.Path.{_≡_, refl, sym, ap, _∙_}
 use borrow.Author.Needs.{needs}
 use lib.Dec.{eqb}
 use Rattle.conditions.specs.Conditions.{both, within}
@@ -20,7 +20,7 @@ returns c =
     let a = c .before .before .before .args in
     let other = not (eqb (a .before) (a .after)) in
     let test : both (within 1 (a .index) 64) other ≡ true = sym (c .before .both-hold .ensures ∙ ap (λ (b : Bool). both b other) (c .before .before .is-within .ensures)) ∙ c .if1 .taken in
-    rw test
+    rw test refl
 
 returns-2 : tie.Need-returns-2
 unfolding changesMade
@@ -28,7 +28,7 @@ returns-2 c =
     let a = c .before .before .before .args in
     let other = not (eqb (a .before) (a .after)) in
     let test : both (within 1 (a .index) 64) other ≡ false = sym (c .before .both-hold .ensures ∙ ap (λ (b : Bool). both b other) (c .before .before .is-within .ensures)) ∙ c .if1 .left in
-    rw test
+    rw test refl
 
 pub changes-made-spec : {M : Type 1} → statement M
 changes-made-spec = tie.close (tie.spec is-within-requires both-hold-requires returns returns-2)

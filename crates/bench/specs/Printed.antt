@@ -1,0 +1,49 @@
+-- Document 01, "Bench program and values": the printed lines, each as its bytes with the line end.
+use Prim.Native.Nat.{ℕ}
+use mathlib.Core.List.{List, [], _∷_, _++_}
+use Rattle.refusal.specs.Refusals.{codes}
+use Rattle.answers.specs.Answers.{Ending, lookedUp, placed, changed, removed, endedWith, Answer, started, underway, ended, walked, walkedLast, givenAgain, gives, refused}
+use Rattle.text_buffer.specs.Filling.{spaced}
+
+-- the line end, LF
+abbrev pub lineEnd : List ℕ
+lineEnd = 10 ∷ []
+
+-- ""!" and a number a refusal, in place of what follows the point"
+unfoldable pub refusalShown : ℕ → List ℕ
+refusalShown n = codes " !" ++ spaced n
+
+-- what follows the point: "P shows point, slot, index"; "L point and value"; "R point and reach after"
+unfoldable pub endingShown : Ending → List ℕ
+endingShown (lookedUp value) = spaced value
+endingShown (placed slot index) = spaced slot ++ spaced index
+endingShown (changed value) = spaced value
+endingShown (removed reach) = spaced reach
+endingShown (endedWith n) = refusalShown n
+
+-- what follows the point, by the answer; an operation that is carried out whole has ended or was refused
+unfoldable pub answerShown : Answer → List ℕ
+answerShown started = []
+answerShown underway = []
+answerShown (ended ending) = endingShown ending
+answerShown (walked word) = []
+answerShown (walkedLast word) = []
+answerShown (givenAgain ending) = []
+answerShown (gives values) = []
+answerShown (refused n) = refusalShown n
+
+-- the line of an operation: its letter, the point, and what it came to
+unfoldable pub operationLine : ℕ → ℕ → Answer → List ℕ
+operationLine letter point answer = (letter ∷ []) ++ spaced point ++ answerShown answer ++ lineEnd
+
+-- "A line it cannot read prints "?", a space and the line's number"
+unfoldable pub unreadableLine : ℕ → List ℕ
+unreadableLine number = codes "?" ++ spaced number ++ lineEnd
+
+-- "The first line shows m and k"
+unfoldable pub panelLine : ℕ → ℕ → List ℕ
+panelLine m k = codes "panel" ++ spaced m ++ spaced k ++ lineEnd
+
+-- "the last, at the end of input, the reach and the number of stored points"
+unfoldable pub lastLine : ℕ → ℕ → List ℕ
+lastLine reach points = codes "reach" ++ spaced reach ++ codes " points" ++ spaced points ++ lineEnd

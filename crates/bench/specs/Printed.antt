@@ -44,6 +44,10 @@ unreadableLine number = codes "?" ++ spaced number ++ lineEnd
 unfoldable pub panelLine : ℕ → ℕ → List ℕ
 panelLine m k = codes "panel" ++ spaced m ++ spaced k ++ lineEnd
 
+-- "A first line that is missing, unreadable or refused prints "panel ! 1""
+unfoldable pub refusedPanelLine : List ℕ
+refusedPanelLine = codes "panel ! 1" ++ lineEnd
+
 -- "the last, at the end of input, the reach and the number of stored points"
 unfoldable pub lastLine : ℕ → ℕ → List ℕ
 lastLine reach points = codes "reach" ++ spaced reach ++ codes " points" ++ spaced points ++ lineEnd

@@ -85,10 +85,9 @@ fn run_panel(panel: Record, slots: &mut [u64], bytes: &mut [u8], text: &mut [u8]
     finish(run_lines(begun, slots, bytes, text), slots, text);
 }
 
-// "A first line that is missing, unreadable or refused prints "panel ! 1" and ends the run".
+// A first line that is missing, unreadable or refused "ends the run".
 fn refuse(text: &mut [u8]) {
-    let filled = text_buffer::line_end(text_buffer::text(0, text, b"panel ! 1"), text);
-    flush(filled, text);
+    flush(printing::panel_refused(0, text), text);
 }
 
 // The record after the lines that have been run, the line behind them, how many there were, and how much

@@ -4,7 +4,7 @@ ghost use lib.ListN.{length};
 ghost use Rattle.refusal.specs.Refusals.{numberOf};
 ghost use Rattle.answers.specs.Answers.{paperEnding, paperWhole};
 ghost use Rattle.text_buffer.specs.Filling.{filledBy, withBytes, withRoom};
-ghost use Rattle.bench.specs.Printed.{refusalShown, endingShown, operationLine, unreadableLine, panelLine, lastLine};
+ghost use Rattle.bench.specs.Printed.{refusalShown, endingShown, operationLine, unreadableLine, panelLine, refusedPanelLine, lastLine};
 use answers::Ending;
 use answers::WholeAnswer;
 use refusal::Refusal;
@@ -30,6 +30,13 @@ pub(crate) fn panel(filled: usize, out: &mut [u8], m: u32, k: u32) -> usize
     let named = text(filled, out, b"panel");
     let sized = number(named, out, m as u64);
     line_end(number(sized, out, k as u64), out)
+}
+
+// "A first line that is missing, unreadable or refused prints "panel ! 1"".
+pub(crate) fn panel_refused(filled: usize, out: &mut [u8]) -> usize
+    ensures { λ r. ⌜ filledBy r (now (out .exit)) ≡ withBytes (filledBy filled (now (out .entry))) refusedPanelLine ⌝ }
+{
+    line_end(text(filled, out, b"panel ! 1"), out)
 }
 
 // "A line it cannot read prints "?", a space and the line's number".

@@ -24,14 +24,14 @@ unfoldable pub withBytes : Filled → List ℕ → Filled
 withBytes before [] = before
 withBytes before (byte ∷ rest) = withBytes (withByte before byte) rest
 
--- at most that many of a number's decimal digits, "0" to "9" as 48 to 57: the last one, behind those of the tenth part if there is one
+-- a number's last decimal digits, "0" to "9" as 48 to 57, at most that many: the last one, behind those of the tenth part if there is one
 unfoldable pub decimalUpTo : ℕ → ℕ → List ℕ
 decimalUpTo zero n = []
 decimalUpTo (suc more) n = cond (ltb n 10) [] (decimalUpTo more (n / 10)) ++ ((48 + n % 10) ∷ [])
 
--- a number in decimal, as few digits as hold it; it has no more digits than this
+-- a number of 64 bits in decimal: as few digits as hold it, and none has more than 20
 unfoldable pub decimalOf : ℕ → List ℕ
-decimalOf n = decimalUpTo (suc n) n
+decimalOf n = decimalUpTo 20 n
 
 -- a space and a number
 unfoldable pub spaced : ℕ → List ℕ

@@ -27,7 +27,7 @@ returns c =
     let a = c .before .before .before .before .before .before .before .before .args in
     let spelt = c .before .before .before .before .before .decimal in
     c .before .before .text .ensures
-    ∙ ap (withBytes (filledBy (a .filled) (now (a .buffer)))) (spelt .ensures .1 .1 ∙ decimal-digits (spelt .result) (a .n) (spelt .ensures .1 .0))
+    ∙ ap (withBytes (filledBy (a .filled) (now (a .buffer)))) (spelt .ensures .1 .1 ∙ decimal-digits (spelt .result) (a .n) (spelt .ensures .1 .0) (c .before .before .before .before .before .before .before .before .fits .n .fits))
 
 pub decimal-spec : {M : Type 1} → statement M
 decimal-spec =

@@ -1,11 +1,8 @@
 -- `bench::printing::operation` meets its contract: the letter, the point, and what the answer shows.
-use mathlib.Core.Path.{_∙_, sym, ap}
+use mathlib.Core.Path.{sym}
 use borrow.Author.Needs.{needs}
-use Rattle.answers.specs.declared.WholeAnswer.{WholeAnswer}
-use Rattle.answers.specs.Answers.{paperWhole}
-use Rattle.text_buffer.specs.Filling.{withBytes}
-use Rattle.text_buffer.proofs.FillingLaws.{behind, one-byte}
-use Rattle.bench.specs.Printed.{answerShown, operationLine}
+use Rattle.bench.specs.Printed.{answerShown}
+use Rattle.bench.proofs.PrintedLaws.{operation-printed}
 use Rattle.bench.proofs.printing.operation.Statement.{statement}
 use Rattle.bench.proofs.printing.operation.Tie as tie
 
@@ -37,23 +34,21 @@ same-length : tie.Need-same-length
 same-length c = search needs
 
 returns : tie.Need-returns
-unfolding operationLine answerShown
+unfolding answerShown
 returns c =
     let a = c .before .before .before .before .before .before .before .before .before .before .before .before .before .before .before .before .before .before .before .before .args in
-    let named = behind _ _ _ (one-byte _ (a .letter) (c .before .before .before .before .before .before .before .before .before .before .before .before .before .before .before .before .before .byte .ensures)) (c .before .before .before .before .before .before .before .before .before .before .before .before .before .number .ensures) in
-    behind _ _ _ (behind _ _ _ named (c .before .before .before .before .before .before .ended .ensures)) (one-byte _ 10 (c .before .before .line-end .ensures))
-    ∙ ap (withBytes _) (ap (λ (x : WholeAnswer). operationLine (a .letter) (a .point) (paperWhole x)) (sym (c .before .before .before .before .before .before .before .before .before .answer .given .1)))
+    operation-printed _ (a .letter) (a .point) _ (a .answer) (sym (c .before .before .before .before .before .before .before .before .before .answer .given .1)) (c .before .before .before .before .before .before .before .before .before .before .before .before .before .before .before .before .before .byte .ensures) (c .before .before .before .before .before .before .before .before .before .before .before .before .before .number .ensures) (c .before .before .before .before .before .before .ended .ensures)
+    (c .before .before .line-end .ensures)
 
 same-length-2 : tie.Need-same-length-2
 same-length-2 c = search needs
 
 returns-2 : tie.Need-returns-2
-unfolding operationLine answerShown
+unfolding answerShown
 returns-2 c =
     let a = c .before .before .before .before .before .before .before .before .before .before .before .before .before .before .before .before .before .before .before .before .args in
-    let named = behind _ _ _ (one-byte _ (a .letter) (c .before .before .before .before .before .before .before .before .before .before .before .before .before .before .before .before .before .byte .ensures)) (c .before .before .before .before .before .before .before .before .before .before .before .before .before .number .ensures) in
-    behind _ _ _ (behind _ _ _ named (c .before .before .before .before .before .before .refused .ensures)) (one-byte _ 10 (c .before .before .line-end2 .ensures))
-    ∙ ap (withBytes _) (ap (λ (x : WholeAnswer). operationLine (a .letter) (a .point) (paperWhole x)) (sym (c .before .before .before .before .before .before .before .before .before .answer2 .given .1)))
+    operation-printed _ (a .letter) (a .point) _ (a .answer) (sym (c .before .before .before .before .before .before .before .before .before .answer2 .given .1)) (c .before .before .before .before .before .before .before .before .before .before .before .before .before .before .before .before .before .byte .ensures) (c .before .before .before .before .before .before .before .before .before .before .before .before .before .number .ensures) (c .before .before .before .before .before .before .refused .ensures)
+    (c .before .before .line-end2 .ensures)
 
 pub operation-spec : {M : Type 1} → statement M
 operation-spec =

@@ -24,7 +24,7 @@ pub(crate) struct Done {
     pub filled: usize,
 }
 
-// What leaves the record as it is.
+// Of a line that leaves a record of this reach as it is.
 fn unchanged(reach: u32, filled: usize) -> Done
     ensures { λ r. ⌜ ((panel : Record) → panel .reach ≡ reach → leaves panel (r .changes) ≡ panel) × (r .filled ≡ filled) ⌝ }
 {

@@ -55,16 +55,20 @@ unfoldable pub changesBetween : Record → Record → Changes
 changesBetween before after =
     record { reach = after .reach; index = recounted before after; count = countOf after (recounted before after) }
 
--- the numbers that a put or removal hands back besides its answer; "With a refusal every other number handed back is 0"
+-- "With a refusal every other number handed back is 0"
+abbrev pub zeros : Changes
+zeros = record { reach = 0; index = 0; count = 0 }
+
+-- the numbers that a put or removal hands back besides its answer
 unfoldable pub changesOf : Record → Outcome → Changes
-changesOf before after = cond (isRefused (after .answer)) (record { reach = 0; index = 0; count = 0 }) (changesBetween before (after .panel))
+changesOf before after = cond (isRefused (after .answer)) zeros (changesBetween before (after .panel))
 
 -- the same in the code's enum
 abbrev pub changesIn : Written → Changes
-changesIn (Refused r) = record { reach = 0; index = 0; count = 0 }
+changesIn (Refused r) = zeros
 changesIn (Done finished) = finished .changes
 
--- its answer
+-- and the answer
 abbrev pub paperWritten : Written → Answer
 paperWritten (Refused r) = refused (numberOf r)
 paperWritten (Done finished) = ended (paperEnding (finished .ending))

@@ -1,2 +1,3 @@
 pub mod ChangeLaws
 pub mod ChangeAgreement
+pub mod ActionLaws

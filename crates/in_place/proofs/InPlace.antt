@@ -27,7 +27,7 @@ use denote.Triple.End.{all, Fins, Outs, outs, lastsOf}
 use denote.Triple.Entry.{Vals}
 use denote.Triple.Spec.{Meets, tripleOf}
 use denote.Triple.Table.{entered}
-use Rattle.in_place.proofs.Outcome.{Outcome, StateT, state-row, answer-row, state-val}
+use Rattle.in_place.proofs.Outcome.{Outcome, StateT, state-row, answer-row, state-ty, outcome-ty, state-val}
 use Rattle.in_place.proofs.Params.{Param, slots, tys, spells, tellss, passed, args, well-typed}
 use Rattle.in_place.proofs.Passing.{Passing}
 use Rattle.in_place.proofs.Walk.{Further, function, Asked, Gives, walk}
@@ -76,7 +76,7 @@ module _ (O : Outcome) {n : ℕ} (ps : List (Param (suc n))) where
       Met run = (κs : Lfts (suc n)) (qs : Shares (suc n)) (x : RefT (StateT O)) (a : Denots (typesAt (slots ps) κs)) (γ : c κs (x, a) .ghost)
           → ent 𝓤 (mean 𝓤 H A (Asked O 𝓤 H A (now x) (further κs qs x a γ))) (run (state-val O (now x) ∷ args κs ps a) (Gives O 𝓤 H A (now x) (further κs qs x a γ)))
 
-      meets : (W : Given 𝓤 H A) (#callee : Name) (𝓣 : Tables 𝓤 H) (p : Passing ps) → Met (𝓣 .C #callee)
+      meets : (W : Given 𝓤 H A) (#callee : Name) (𝓣 : Tables 𝓤 H) (p : Passing ps (outcome-ty O ∷ state-ty O ∷ []) []) → Met (𝓣 .C #callee)
           → Meets 𝓤 H A (ended .signature) (WpFn 𝓤 H (𝓣 .C) (𝓣 .Λ) (function O (suc n) #callee (tys ps) (p .handing))) (closing 𝓤 H A ended c)
       meets W #callee 𝓣 p met y =
           let κs : Lfts (suc n) = y .0 .0 in
@@ -93,7 +93,7 @@ module _ (O : Outcome) {n : ℕ} (ps : List (Param (suc n))) where
           (apply∗ 𝓤 Need (Runs (y .0 .4)))
 
   -- the function's routine, which stands in an environment under its name, meets the contract where its code is the walk's
-  pub in-place : (p : Passing ps) {M : Type 1} (𝓤 : URA M) (H : Heap 𝓤) (𝓜 : Model 𝓤 H) (𝓖 : GhostRules 𝓤 H) (𝓡 : Running 𝓤 H 𝓜) (c : Clauses 𝓤 ended) (e : Ensured 𝓤 H (𝓖 .A) c) (env : Env) (#self #callee : Name) (code : Fn)
+  pub in-place : (p : Passing ps (outcome-ty O ∷ state-ty O ∷ []) []) {M : Type 1} (𝓤 : URA M) (H : Heap 𝓤) (𝓜 : Model 𝓤 H) (𝓖 : GhostRules 𝓤 H) (𝓡 : Running 𝓤 H 𝓜) (c : Clauses 𝓤 ended) (e : Ensured 𝓤 H (𝓖 .A) c) (env : Env) (#self #callee : Name) (code : Fn)
       → Closed 𝓤 H (tables 𝓤 H 𝓜 𝓡 env .C) (tables 𝓤 H 𝓜 𝓡 env .Λ) #self code → code ≡ function O (suc n) #callee (tys ps) (p .handing) → Met 𝓤 H (𝓖 .A) c e (𝓡 .run (env #callee))
       → Meets 𝓤 H (𝓖 .A) (ended .signature) (𝓡 .run (env #self)) (closing 𝓤 H (𝓖 .A) ended c)
   unfolding tablesOf

@@ -61,10 +61,10 @@ module _ (O : Outcome) where
   abbrev pub AnswerT : Type 0
   AnswerT = O .answers .type .D
 
-  abbrev struct : Declared
+  abbrev pub struct : Declared
   struct = record { name = O .name; args = []; parts = fields (O .states) (O .answers); D = O .D; to = λ d. values (O .states) (O .answers) (O .state d) (O .answer d); to-one = O .one }
 
-  abbrev laws : LL.Laws struct
+  abbrev pub laws : LL.Laws struct
   laws = (LL.field-laws (O .states .type) (O .states .laws) (O .states .lowers), (EL.field-laws (O .answers .type) (O .answers .laws) (O .answers .few) (O .answers .lowers), tt))
 
   -- the rows and the MIR types

@@ -35,19 +35,19 @@ pub record Handing : Type 0 where
   pub before : Body → Body
   pub operands : List Operand
 
--- the environment: the answer, the reference, the further parameters, what the callee gives, the state by value, and the locals made
-abbrev pub environment : (τs made : List Ty) → Blocks τs → Blocks made → (e₀ e₁ e₂ e₃ : Ty × ℕ) → List (Ty × ℕ)
-environment τs made bs ms e₀ e₁ e₂ e₃ = e₀ ∷ e₁ ∷ (env τs bs ++ (e₂ ∷ e₃ ∷ (env made ms ++ [])))
+-- the environment: two locals, the further parameters, the locals between these and those made, the locals made, and those behind
+abbrev pub environment : (τs middle made behind : List Ty) → Blocks τs → Blocks middle → Blocks made → Blocks behind → (e₀ e₁ : Ty × ℕ) → List (Ty × ℕ)
+environment τs middle made behind bs cs ms ds e₀ e₁ = e₀ ∷ e₁ ∷ (env τs bs ++ (env middle cs ++ (env made ms ++ env behind ds)))
 
 -- after those statements the locals made hold us, and the operands are the arguments vs
-pub record Hands {M : Type 1} {𝓤 : URA M} {H : Heap 𝓤} {A : Atoms 𝓤} (W : Given 𝓤 H A) (τs : List Ty) (vs : List Val) (g : Handing) : Type 2 where
+pub record Hands {M : Type 1} {𝓤 : URA M} {H : Heap 𝓤} {A : Atoms 𝓤} (W : Given 𝓤 H A) (τs middle behind : List Ty) (vs : List Val) (g : Handing) : Type 2 where
   pub us : List Val
   pub typed : Typed (g .made) us
-  pub runs-before : (Γ : List (Item 𝓤)) (C : Calls 𝓤 H) (Λ : Loops 𝓤 H) (bs : Blocks τs) (ms : Blocks (g .made)) (e₀ e₁ e₂ e₃ : Ty × ℕ) (rest : Body) (q : Post 𝓤 H)
-      → Step (Go {0}) W (‵ (cells τs bs vs) ∷ ‵ (cells (g .made) ms us) ∷ Γ) (runs C Λ (environment τs (g .made) bs ms e₀ e₁ e₂ e₃) rest q)
-      (‵ (cells τs bs vs) ∷ ‵ (rooms (g .made) ms) ∷ Γ) (runs C Λ (environment τs (g .made) bs ms e₀ e₁ e₂ e₃) (g .before rest) q)
-  pub read : (i : Item 𝓤) (Γ : List (Item 𝓤)) (bs : Blocks τs) (ms : Blocks (g .made)) (e₀ e₁ e₂ e₃ : Ty × ℕ)
-      → Opds (Go {0}) W (i ∷ ‵ (cells τs bs vs) ∷ ‵ (cells (g .made) ms us) ∷ Γ) (environment τs (g .made) bs ms e₀ e₁ e₂ e₃) (g .operands) vs
+  pub runs-before : (Γ : List (Item 𝓤)) (C : Calls 𝓤 H) (Λ : Loops 𝓤 H) (bs : Blocks τs) (cs : Blocks middle) (ms : Blocks (g .made)) (ds : Blocks behind) (e₀ e₁ : Ty × ℕ) (rest : Body) (q : Post 𝓤 H)
+      → Step (Go {0}) W (‵ (cells τs bs vs) ∷ ‵ (cells (g .made) ms us) ∷ Γ) (runs C Λ (environment τs middle (g .made) behind bs cs ms ds e₀ e₁) rest q)
+      (‵ (cells τs bs vs) ∷ ‵ (rooms (g .made) ms) ∷ Γ) (runs C Λ (environment τs middle (g .made) behind bs cs ms ds e₀ e₁) (g .before rest) q)
+  pub read : (i : Item 𝓤) (Γ : List (Item 𝓤)) (bs : Blocks τs) (cs : Blocks middle) (ms : Blocks (g .made)) (ds : Blocks behind) (e₀ e₁ : Ty × ℕ)
+      → Opds (Go {0}) W (i ∷ ‵ (cells τs bs vs) ∷ ‵ (cells (g .made) ms us) ∷ Γ) (environment τs middle (g .made) behind bs cs ms ds e₀ e₁) (g .operands) vs
 
 -- the further parameters and the two contracts: the lifetimes' tokens, what is owned, what is required, what is said of the last values, what the callee ensures, and what the function ensures, which follows
 pub record Further {M : Type 1} (𝓤 : URA M) (O : Outcome) : Type 2 where
@@ -115,7 +115,7 @@ module _ (O : Outcome) where
           move ! (2 ∷ []) $ use1 W (‵ (fres γ (R .coded .code (O .state r)))) (W .names .obs-res γ (R .coded .code (O .state r))) $ move ! (0 ∷ 2 ∷ []) $ fjoin ! $ keep ! (0 ∷ 1 ∷ []) $
           show ! (Lasts (O .answer r)) (O .state r, l .1) $ frame ! $ done !)
 
-      module _ (C : Calls 𝓤 H) (Λ : Loops 𝓤 H) (fm : FmC 𝓤 H (W .laws) C) (n : ℕ) (#callee : Name) (τs : List Ty) (vs : List Val) (ok : Typed τs vs) (g : Handing) (hands : Hands W τs vs g) (met : ent 𝓤 (mean 𝓤 H A Asked) (C #callee (state-val O h ∷ vs) Gives)) where
+      module _ (C : Calls 𝓤 H) (Λ : Loops 𝓤 H) (fm : FmC 𝓤 H (W .laws) C) (n : ℕ) (#callee : Name) (τs : List Ty) (vs : List Val) (ok : Typed τs vs) (g : Handing) (hands : Hands W τs (outcome-ty O ∷ state-ty O ∷ []) [] vs g) (met : ent 𝓤 (mean 𝓤 H A Asked) (C #callee (state-val O h ∷ vs) Gives)) where
         -- the two locals past the parameters
         at-after : (bs : Blocks τs) (ms : Blocks (g .made)) (l₂ l₃ : ℕ) → getD (env τs bs ++ ((outcome-ty O, l₂) ∷ (state-ty O, l₃) ∷ (env (g .made) ms ++ []))) (past τs 0) (noLocal 𝓤 H) ≡ (outcome-ty O, l₂)
         at-after bs ms l₂ l₃ = past-is (noLocal 𝓤 H) τs bs ((outcome-ty O, l₂) ∷ (state-ty O, l₃) ∷ (env (g .made) ms ++ [])) 0
@@ -134,10 +134,10 @@ module _ (O : Outcome) where
             move ! (1 ∷ []) $ peeks ! R (Is R) (shows 𝓤 H A R) h (state-val O h ∷ []) (λ is-h.
             -- [what the state owns; its cell; the open borrow; obs; auth; the further parameters at 5; the locals made; state; …; after; …; _1; …; _0; …; what the further parameters own at 15; …]
             assigns ! (of-opd ! (load ! (from ! (hop ! (look ! 11 refl) (stop !))) (look-raw ! 1 refl))) (found ! (at-state bs ms l₂ l₃) (stop !)) (init ! 7 refl (state-typed O 𝓤 H A W h is-h)) $
-            move ! (5 ∷ 6 ∷ []) $ hands .runs-before _ C Λ bs ms _ _ _ _ _ _ $
+            move ! (5 ∷ 6 ∷ []) $ hands .runs-before _ C Λ bs (l₂, (l₃, tt)) ms tt _ _ _ _ $
             -- [the further parameters; the locals made; what the state owns; its cell; the open borrow; obs; auth; state; …; after; …; _1; …; _0; …; what the further parameters own at 15; …]
             move ! (2 ∷ 15 ∷ 16 ∷ 17 ∷ []) $ fjoin ! $ move ! (1 ∷ 0 ∷ []) $ join ! $ join ! $
-            calls-from ! fm Asked (state-val O h ∷ vs) Gives met (and-then ! (load ! (found ! (at-state bs ms l₂ l₃) (stop !)) (look ! 7 refl)) (hands .read Asked _ bs ms _ _ _ _)) (λ u.
+            calls-from ! fm Asked (state-val O h ∷ vs) Gives met (and-then ! (load ! (found ! (at-state bs ms l₂ l₃) (stop !)) (look ! 7 refl)) (hands .read Asked _ bs (l₂, (l₃, tt)) ms tt _ _)) (λ u.
             use1 W (later (some (λ (r : O .D). (raw (f .tokens) ⊛ ‵ (outcome-row O .own r (u ∷ []))) ⊛ raw (Ensures r)))) (id⊢ 𝓤 _) $ await ! tt $ pick ! (λ r. split ! $ split ! $ move ! (1 ∷ []) $ peeks ! (outcome-row O) (Is (outcome-row O)) (shows 𝓤 H A (outcome-row O)) r (u ∷ []) (λ is. drop ! $
             -- [the tokens; what the callee ensures; the further parameters; the locals made; the cell at 4; the open borrow; obs; auth; state; …; after; …; _1; …; _0; …]
             land ! (found ! (at-after bs ms l₂ l₃) (stop !)) (init ! 10 refl (outcome-typed O r u is 𝓤 H A W)) $ rewrite ! 10 (λ (v : Val). ‵ (fat fullShare (outcome-ty O) l₂ 0 v)) (spelt O r u is) refl $

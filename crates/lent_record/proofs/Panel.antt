@@ -1,0 +1,16 @@
+-- What the calls give, put together from a record and an answer, as `Lent.antt` takes it.
+use mathlib.Core.Path.{refl}
+use Rattle.answers.proofs.EntryOutcome.Laws as EntryOutcome′
+use Rattle.answers.proofs.StartOutcome.Laws as StartOutcome′
+use Rattle.answers.proofs.StepOutcome.Laws as StepOutcome′
+use Rattle.in_place.proofs.Panel.{start-outcome, step-outcome, entry-outcome}
+use Rattle.lent_record.proofs.Lending.{Made}
+
+abbrev pub start-made : Made start-outcome
+start-made = record { make = λ h w. record { panel = h; answer = w }; state-is = λ h w. refl; answer-is = λ h w. refl; whole = λ r. refl; plain = StartOutcome′.the-plain; last = λ h. tt; silent = λ h. refl }
+
+abbrev pub step-made : Made step-outcome
+step-made = record { make = λ h w. record { panel = h; answer = w }; state-is = λ h w. refl; answer-is = λ h w. refl; whole = λ r. refl; plain = StepOutcome′.the-plain; last = λ h. tt; silent = λ h. refl }
+
+abbrev pub entry-made : Made entry-outcome
+entry-made = record { make = λ h w. record { panel = h; answer = w }; state-is = λ h w. refl; answer-is = λ h w. refl; whole = λ r. refl; plain = EntryOutcome′.the-plain; last = λ h. tt; silent = λ h. refl }

@@ -1,26 +1,16 @@
 // The second, test program of document 01: outside vectors, run through the proved functions.
-mod answer_digest;
 mod commands;
-mod digest;
 mod disabled;
-mod drawn_calls;
-mod drawn_commands;
-mod drawn_frames;
-mod drawn_history;
-mod drawn_numbers;
-mod drawn_panels;
 mod frames;
 mod fresh;
 mod operations;
-mod printing;
 mod ranges;
 mod readers;
-mod state_digest;
 mod unreached;
-mod work_digest;
 mod writer_refusals;
 mod writing;
 
+use drawn_histories::Way;
 use printing::line_end;
 use printing::number;
 use printing::refusal;
@@ -39,7 +29,7 @@ fn main() {
     writing::run();
     writer_refusals::run();
     unreached::run();
-    drawn_panels::run();
+    drawn_histories::run(Way::ByValue);
 }
 
 // The published check z(10000), and the table's first six values.

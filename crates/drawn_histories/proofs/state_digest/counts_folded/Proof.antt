@@ -1,8 +1,8 @@
--- `vectors::state_digest::counts_folded` ends: it counts up to index 64.
+-- `drawn_histories::state_digest::counts_folded` ends: it counts up to index 64.
 use Prim.Native.Nat.{_-_, _≤_}
 use borrow.Author.Needs.{needs}
-use Rattle.vectors.proofs.state_digest.counts_folded.Statement.{statement}
-use Rattle.vectors.proofs.state_digest.counts_folded.Tie as tie
+use Rattle.drawn_histories.proofs.state_digest.counts_folded.Statement.{statement}
+use Rattle.drawn_histories.proofs.state_digest.counts_folded.Tie as tie
 
 abbrev Inv-loop : tie.InvT-loop
 Inv-loop panel now₀ index₀ now index = index ≤ 65

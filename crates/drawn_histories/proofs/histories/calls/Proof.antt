@@ -1,16 +1,16 @@
--- `vectors::drawn_history::calls` ends: it counts up to part 50.
+-- `drawn_histories::histories::calls` ends: it counts up to part 50.
 use Prim.Native.Nat.{_-_, _≤_}
 use mathlib.Core.Path.{_≡_}
 use borrow.Author.Needs.{needs}
 use lib.ListN.{length}
-use Rattle.vectors.proofs.drawn_history.calls.Statement.{statement}
-use Rattle.vectors.proofs.drawn_history.calls.Tie as tie
+use Rattle.drawn_histories.proofs.histories.calls.Statement.{statement}
+use Rattle.drawn_histories.proofs.histories.calls.Tie as tie
 
 abbrev Inv-loop : tie.InvT-loop
-Inv-loop slots₀ points drawn now₀ part₀ slots now part = (part ≤ 51) × (length slots ≡ length slots₀)
+Inv-loop way slots₀ points drawn now₀ part₀ slots now part = (part ≤ 51) × (length slots ≡ length slots₀)
 
 abbrev μ-loop : tie.MeasureT-loop
-μ-loop slots₀ points drawn now₀ part₀ slots now part = 51 - part
+μ-loop way slots₀ points drawn now₀ part₀ slots now part = 51 - part
 
 empty-requires : tie.Need-empty-requires Inv-loop μ-loop
 empty-requires c κs = search needs

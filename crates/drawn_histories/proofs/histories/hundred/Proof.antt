@@ -1,16 +1,16 @@
--- `vectors::drawn_history::hundred` ends: it makes 100 calls.
+-- `drawn_histories::histories::hundred` ends: it makes 100 calls.
 use Prim.Native.Nat.{_-_, _≤_}
 use mathlib.Core.Path.{_≡_}
 use borrow.Author.Needs.{needs}
 use lib.ListN.{length}
-use Rattle.vectors.proofs.drawn_history.hundred.Statement.{statement}
-use Rattle.vectors.proofs.drawn_history.hundred.Tie as tie
+use Rattle.drawn_histories.proofs.histories.hundred.Statement.{statement}
+use Rattle.drawn_histories.proofs.histories.hundred.Tie as tie
 
 abbrev Inv-loop : tie.InvT-loop
-Inv-loop slots₀ points now₀ counter₀ slots now counter = (counter ≤ 100) × (length slots ≡ length slots₀)
+Inv-loop way slots₀ points now₀ counter₀ slots now counter = (counter ≤ 100) × (length slots ≡ length slots₀)
 
 abbrev μ-loop : tie.MeasureT-loop
-μ-loop slots₀ points now₀ counter₀ slots now counter = 100 - counter
+μ-loop way slots₀ points now₀ counter₀ slots now counter = 100 - counter
 
 empty-requires : tie.Need-empty-requires Inv-loop μ-loop
 empty-requires c κs = search needs

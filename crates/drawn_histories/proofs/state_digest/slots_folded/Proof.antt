@@ -1,9 +1,9 @@
--- `vectors::state_digest::slots_folded` ends: it counts up to the number of slots.
+-- `drawn_histories::state_digest::slots_folded` ends: it counts up to the number of slots.
 use Prim.Native.Nat.{_-_, _≤_}
 use borrow.Author.Needs.{needs}
 use lib.ListN.{length}
-use Rattle.vectors.proofs.state_digest.slots_folded.Statement.{statement}
-use Rattle.vectors.proofs.state_digest.slots_folded.Tie as tie
+use Rattle.drawn_histories.proofs.state_digest.slots_folded.Statement.{statement}
+use Rattle.drawn_histories.proofs.state_digest.slots_folded.Tie as tie
 
 abbrev Inv-loop : tie.InvT-loop
 Inv-loop slots now₀ i₀ i-end now i = i ≤ length slots

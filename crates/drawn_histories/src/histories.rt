@@ -1,20 +1,24 @@
-// A history of drawn calls through `apply`. Each call's answer, and the slots and the record after it, go
-// into a digest, which a line shows after each hundred calls.
+// A history of drawn calls. Each call's answer, and the slots and the record after it, go into a digest,
+// which a line shows after each hundred calls.
+use crate::Way;
 use crate::answer_digest::answer_folded;
+use crate::calls::drawn_call;
+use crate::commands::drawn_command;
 use crate::digest::Digest;
 use crate::digest::empty;
-use crate::drawn_calls::drawn_call;
-use crate::drawn_commands::drawn_command;
-use crate::drawn_frames::drawn_length;
-use crate::drawn_frames::drawn_map;
-use crate::drawn_frames::frame_of;
-use crate::drawn_numbers::draw;
-use crate::printing::line_end;
-use crate::printing::number;
-use crate::printing::text;
-use crate::printing::word;
+use crate::frames::drawn_length;
+use crate::frames::drawn_map;
+use crate::frames::frame_of;
+use crate::lending::lent;
+use crate::numbers::draw;
 use crate::state_digest::state_folded;
+use answers::CallOutcome;
+use history::Call;
 use history::apply;
+use printing::line_end;
+use printing::number;
+use printing::text;
+use printing::word;
 use record::Record;
 use slot_words::taken::taken_slots;
 
@@ -26,21 +30,21 @@ struct Progress {
 }
 
 // Five thousand calls; the generator's value behind them.
-pub(crate) fn calls(panel: Record, slots: &mut [u64], points: u32, drawn: u32) -> u32 {
+pub(crate) fn calls(way: Way, panel: Record, slots: &mut [u64], points: u32, drawn: u32) -> u32 {
     let mut now = Progress {
         panel: panel,
         drawn: drawn,
         digest: empty(),
     };
     for part in 1..51u32 {
-        now = hundred(now, slots, points);
+        now = hundred(way, now, slots, points);
         report(now, slots, part * 100);
     }
     now.drawn
 }
 
 // A hundred calls, with a digest of their own.
-fn hundred(before: Progress, slots: &mut [u64], points: u32) -> Progress {
+fn hundred(way: Way, before: Progress, slots: &mut [u64], points: u32) -> Progress {
     let panel = before.panel;
     let mut now = Progress {
         panel: panel,
@@ -48,25 +52,44 @@ fn hundred(before: Progress, slots: &mut [u64], points: u32) -> Progress {
         digest: empty(),
     };
     for _ in 0..100u32 {
-        now = call(now, slots, points);
+        now = call(way, now, slots, points);
     }
     now
 }
 
 // One call. A frame is lent to each, and only a command looks at it.
-fn call(before: Progress, slots: &mut [u64], points: u32) -> Progress {
+fn call(way: Way, before: Progress, slots: &mut [u64], points: u32) -> Progress {
     let panel = before.panel;
     let digest = before.digest;
     let draws = draw(before.drawn);
     let frame = frame_of(drawn_command(panel, draws, points), drawn_map(draws.rest));
     let length = drawn_length(draws.which);
-    let left = apply(panel, slots, drawn_call(draws, points), &frame[..length]);
+    let left = carried_out(
+        way,
+        panel,
+        slots,
+        drawn_call(draws, points),
+        &frame[..length],
+    );
     let after = left.panel;
     let answer = left.answer;
     Progress {
         panel: after,
         drawn: draws.rest,
         digest: state_folded(answer_folded(digest, answer), after, slots),
+    }
+}
+
+fn carried_out(
+    way: Way,
+    panel: Record,
+    slots: &mut [u64],
+    call: Call,
+    frame: &[u8],
+) -> CallOutcome {
+    match way {
+        Way::ByValue => apply(panel, slots, call, frame),
+        Way::InPlace => lent(panel, slots, call, frame),
     }
 }
 

@@ -1,9 +1,9 @@
--- `vectors::drawn_history::call` is safe: the part of the frame that it lends is within the buffer.
+-- `drawn_histories::histories::call` is safe: the part of the frame that it lends is within the buffer.
 use native.Mathlib.Omega.{arith}
 use borrow.Author.Needs.{needs}
 use lib.ListN.{length-take}
-use Rattle.vectors.proofs.drawn_history.call.Statement.{statement}
-use Rattle.vectors.proofs.drawn_history.call.Tie as tie
+use Rattle.drawn_histories.proofs.histories.call.Statement.{statement}
+use Rattle.drawn_histories.proofs.histories.call.Tie as tie
 
 draw-requires : tie.Need-draw-requires
 draw-requires c κs = search needs
@@ -26,11 +26,11 @@ drawn-call-requires c κs = search needs
 array-share-prefix-frame : tie.Need-array-share-prefix-frame
 array-share-prefix-frame c = search needs
 
-slice-aggregate-apply : tie.Need-slice-aggregate-apply
-slice-aggregate-apply c = simp length-take (omega arith)
+slice-aggregate-carried-out : tie.Need-slice-aggregate-carried-out
+slice-aggregate-carried-out c = simp length-take (omega arith)
 
-apply-requires : tie.Need-apply-requires
-apply-requires c κs = search needs
+carried-out-requires : tie.Need-carried-out-requires
+carried-out-requires c κs = search needs
 
 answer-folded-requires : tie.Need-answer-folded-requires
 answer-folded-requires c κs = search needs
@@ -55,8 +55,8 @@ call-spec =
     drawn-length-requires
     drawn-call-requires
     array-share-prefix-frame
-    slice-aggregate-apply
-    apply-requires
+    slice-aggregate-carried-out
+    carried-out-requires
     answer-folded-requires
     state-folded-requires
     same-length

@@ -1,6 +1,6 @@
 // A command's frame in a buffer that has one byte more, and how much of the buffer is lent.
 ghost use Prim.Native.Nat.{_≤_};
-use crate::drawn_numbers::upper;
+use crate::numbers::upper;
 use command::Sent;
 
 pub(crate) fn frame_of(sent: Sent, map: u8) -> [u8; 11] {

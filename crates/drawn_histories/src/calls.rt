@@ -1,7 +1,7 @@
 // A call chosen by drawn numbers. All eight occur, and steps most often, so that work comes to its end.
-use crate::drawn_numbers::Draws;
-use crate::drawn_numbers::joined;
-use crate::drawn_numbers::upper;
+use crate::numbers::Draws;
+use crate::numbers::joined;
+use crate::numbers::upper;
 use history::Call;
 
 pub(crate) fn drawn_call(draws: Draws, points: u32) -> Call {

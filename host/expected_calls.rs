@@ -1,8 +1,9 @@
-//! The long histories of drawn calls that `vectors` runs, on four panels: a digest after each
-//! hundred calls.
+//! The long histories of drawn calls that `vectors` and `in_place_run` run, on four panels: a digest
+//! after each hundred calls.
 
 use crate::expected_digest::Digest;
 use crate::expected_draws::{Draws, Generator};
+use crate::expected_occurring::Occurring;
 use crate::reference_calls::apply;
 use crate::reference_record::{Record, Station};
 use crate::reference_table::fresh;
@@ -29,20 +30,22 @@ impl Panel {
         }
     }
 
-    fn run(mut self, generator: &mut Generator) {
+    fn run(mut self, generator: &mut Generator, occurring: &mut Occurring) {
         for line in 1..=LINES {
             let mut digest = Digest::new();
             for _ in 0..CALLS_BETWEEN_LINES {
-                self.call(generator, &mut digest);
+                self.call(generator, &mut digest, occurring);
             }
             self.report(line * CALLS_BETWEEN_LINES, &digest);
         }
     }
 
-    fn call(&mut self, generator: &mut Generator, digest: &mut Digest) {
+    fn call(&mut self, generator: &mut Generator, digest: &mut Digest, occurring: &mut Occurring) {
         let draws = Draws::new(generator, self.points);
         let frame = draws.frame(&self.record);
-        let answer = apply(&mut self.record, &mut self.slots, draws.call(), &frame);
+        let call = draws.call();
+        let answer = apply(&mut self.record, &mut self.slots, call, &frame);
+        occurring.note(call, answer);
         digest.add_answer(answer);
         digest.add_state(&self.record, &self.slots);
     }
@@ -57,6 +60,7 @@ impl Panel {
 
 pub fn run() {
     let mut generator = Generator(1);
+    let mut occurring = Occurring::default();
     let mut one_slot = Panel::fresh(1, 3, 2);
     // Ten numbers are left to station 4.
     one_slot.record.stations[3] = Station {
@@ -65,8 +69,9 @@ pub fn run() {
         action: 0,
         answer: None,
     };
-    one_slot.run(&mut generator);
-    Panel::fresh(8, 4, 6).run(&mut generator);
-    Panel::fresh(16, 16, 24).run(&mut generator);
-    Panel::fresh(64, 16, 64).run(&mut generator);
+    one_slot.run(&mut generator, &mut occurring);
+    Panel::fresh(8, 4, 6).run(&mut generator, &mut occurring);
+    Panel::fresh(16, 16, 24).run(&mut generator, &mut occurring);
+    Panel::fresh(64, 16, 64).run(&mut generator, &mut occurring);
+    occurring.check();
 }

@@ -8,6 +8,7 @@ mod expected_disabled;
 mod expected_draws;
 mod expected_frames;
 mod expected_fresh;
+mod expected_occurring;
 mod expected_operations;
 mod expected_ranges;
 mod expected_readers;

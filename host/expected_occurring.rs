@@ -1,0 +1,112 @@
+//! What the drawn calls must bring about, so that a comparison of their digests means something: every
+//! call, and the answers listed here, each many times.
+
+use crate::reference_calls::{Answer, Call};
+use crate::reference_command::Entry;
+use crate::reference_table::Step;
+use crate::reference_writer::WriterStep;
+use std::collections::BTreeMap;
+
+/// Each must occur so often.
+const TIMES: u32 = 10;
+
+const MUST_OCCUR: [&str; 29] = [
+    "start of a lookup",
+    "start of a walk",
+    "reader's step",
+    "start of a put",
+    "start of a change",
+    "start of a removal",
+    "command",
+    "writer's step",
+    "started",
+    "given again",
+    "found",
+    "reader's 7",
+    "walk's word",
+    "walk's last word",
+    "placed",
+    "changed",
+    "removed",
+    "no perch",
+    "writer's 7",
+    "refusal 2",
+    "refusal 3",
+    "refusal 4",
+    "refusal 5",
+    "refusal 8",
+    "refusal 9",
+    "refusal 10",
+    "refusal 11",
+    "refusal 12",
+    "refusal 13",
+];
+
+#[derive(Default)]
+pub struct Occurring(BTreeMap<String, u32>);
+
+impl Occurring {
+    pub fn note(&mut self, call: Call, answer: Answer) {
+        self.count(call_name(call).to_string());
+        self.count(answer_name(answer));
+    }
+
+    fn count(&mut self, name: String) {
+        *self.0.entry(name).or_default() += 1;
+    }
+
+    pub fn check(&self) {
+        for name in MUST_OCCUR {
+            let times = self.0.get(name).copied().unwrap_or_default();
+            assert!(times >= TIMES, "{name} occurred {times} times");
+        }
+    }
+}
+
+fn call_name(call: Call) -> &'static str {
+    match call {
+        Call::StartLookup { .. } => "start of a lookup",
+        Call::StartWalk { .. } => "start of a walk",
+        Call::StepReader { .. } => "reader's step",
+        Call::StartPut { .. } => "start of a put",
+        Call::StartChange { .. } => "start of a change",
+        Call::StartRemoval { .. } => "start of a removal",
+        Call::StartCommand => "command",
+        Call::StepWriter => "writer's step",
+    }
+}
+
+fn answer_name(answer: Answer) -> String {
+    let name = match answer {
+        Answer::Start(Ok(())) | Answer::Entry(Ok(Entry::Started)) => "started",
+        Answer::Entry(Ok(Entry::GivenAgain(_))) => "given again",
+        Answer::Reader(Ok(step)) => reader_step_name(step),
+        Answer::Writer(Ok(step)) => writer_step_name(step),
+        Answer::Start(Err(refusal))
+        | Answer::Entry(Err(refusal))
+        | Answer::Reader(Err(refusal))
+        | Answer::Writer(Err(refusal)) => return format!("refusal {refusal}"),
+    };
+    name.to_string()
+}
+
+fn reader_step_name(step: Step) -> &'static str {
+    match step {
+        Step::Underway => "reader underway",
+        Step::Found(_) => "found",
+        Step::Unknown => "reader's 7",
+        Step::Word(_) => "walk's word",
+        Step::LastWord(_) => "walk's last word",
+    }
+}
+
+fn writer_step_name(step: WriterStep) -> &'static str {
+    match step {
+        WriterStep::Underway => "writer underway",
+        WriterStep::Put { .. } => "placed",
+        WriterStep::Changed(_) => "changed",
+        WriterStep::Removed(_) => "removed",
+        WriterStep::NoPerch => "no perch",
+        WriterStep::Unknown => "writer's 7",
+    }
+}

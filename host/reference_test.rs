@@ -20,6 +20,7 @@ mod test_entry;
 mod test_histories;
 mod test_orders;
 mod test_steps;
+mod test_walks;
 
 // Commands are not read from text here.
 #[allow(dead_code)]
@@ -27,13 +28,14 @@ mod bench_line;
 // Not every function is used.
 #[allow(dead_code)]
 mod random;
-// Walks and disabled points are tested elsewhere.
+// Disabled points are tested elsewhere.
 #[allow(dead_code)]
 mod reference_table;
 
 use plain_feeding::Answer;
 use reference_table::Refusal;
 use reference_writer::WriterStep;
+use test_walks::Ended;
 
 /// What a writer's operation ended with; none if it is underway.
 fn answer_of(step: Result<WriterStep, Refusal>) -> Option<Answer> {
@@ -51,9 +53,10 @@ fn main() {
     test_steps::run();
     test_entry::run();
     let commands = test_histories::run();
-    let calls = test_orders::run();
+    let (calls, Ended { walks, altered }) = test_orders::run();
     println!(
         "reference_test: {commands} commands of histories and {calls} calls in any order, \
-         as the plain list has them"
+         as the plain list has them; {walks} walks to their end, {altered} of them while the list \
+         was altered"
     );
 }

@@ -1,6 +1,5 @@
 //! Steps of the writer and of readers in any order, against the plain list: document 01's claim
-//! about every list of calls, as far as lookups, commands and the writer go, and the bounds on
-//! steps.
+//! about every list of calls, walks, and the bounds on steps.
 
 use crate::answer_of;
 use crate::drawn_commands::Sent;
@@ -9,13 +8,18 @@ use crate::plain_list::PlainList;
 use crate::random::Random;
 use crate::reference_command;
 use crate::reference_record::{Reader, Record, Writer};
-use crate::reference_table::{fresh, start_lookup, step_reader, Refusal, Step};
+use crate::reference_table::{fresh, start_lookup, start_walk, step_reader, Refusal, Step};
 use crate::reference_writer::{start_change, start_put, start_removal, step_writer};
 use crate::test_commands::Notes;
+use crate::test_walks::{Ended, Walk};
 
 const PANELS: u32 = 1500;
 const CALLS: u32 = 400;
 const READERS: u32 = 3;
+
+/// More walks than these must come to their end, and more while the list is altered.
+const WALKS: u32 = 10_000;
+const WALKS_ALTERED: u32 = 5_000;
 
 /// Points and one that is refused, so few that the same one is often looked up and altered.
 const LAST_POINT: u32 = 7;
@@ -34,23 +38,29 @@ struct World {
     slots: Vec<u64>,
     list: PlainList,
     lookups: Vec<Lookup>,
+    walks: Vec<Walk>,
+    walks_ended: Ended,
     writer_steps: u32,
     /// What the plain list answered when it was fed the writer's operation.
     fed: Option<Answer>,
     commands: Notes,
 }
 
-/// The number of calls made.
-pub fn run() -> u32 {
+/// The number of calls made, and the walks that came to their end.
+pub fn run() -> (u32, Ended) {
     let mut random = Random(3);
+    let mut ended = Ended::default();
     for _ in 0..PANELS {
         let mut world = World::new(random.within(1, 6), random.within(1, 5));
         for _ in 0..CALLS {
             world.call(&mut random);
             world.check();
         }
+        ended.walks += world.walks_ended.walks;
+        ended.altered += world.walks_ended.altered;
     }
-    PANELS * CALLS
+    assert!(ended.walks > WALKS && ended.altered > WALKS_ALTERED);
+    (PANELS * CALLS, ended)
 }
 
 impl World {
@@ -62,6 +72,8 @@ impl World {
             slots,
             list: PlainList::new(m, k),
             lookups: vec![Lookup::default(); READERS as usize],
+            walks: vec![Walk::default(); READERS as usize],
+            walks_ended: Ended::default(),
             writer_steps: 0,
             fed: None,
             commands: Notes::default(),
@@ -71,8 +83,9 @@ impl World {
     /// One call, which may be refused.
     fn call(&mut self, random: &mut Random) {
         let reader = random.within(0, READERS - 1);
-        match random.within(0, 9) {
+        match random.within(0, 10) {
             0 => self.start_lookup(reader, random.within(0, LAST_POINT)),
+            10 => self.start_walk(reader),
             1..=4 => self.step_reader(reader),
             5 => self.start_writer(random),
             6 => self.start_command(random),
@@ -85,9 +98,12 @@ impl World {
         assert!(self.record.in_range());
         assert_eq!(self.slots, self.list.slots());
         for (work, lookup) in self.record.readers.iter().zip(&mut self.lookups) {
-            if *work != Reader::Idle && lookup.steps > 0 {
+            if matches!(work, Reader::LookingUp { .. }) && lookup.steps > 0 {
                 lookup.moments.push(self.list.lookup(lookup.point));
             }
+        }
+        for walk in &mut self.walks {
+            walk.moment(&self.list);
         }
     }
 
@@ -100,11 +116,37 @@ impl World {
         }
     }
 
+    fn start_walk(&mut self, reader: u32) {
+        if start_walk(&mut self.record, &self.slots, reader).is_ok() {
+            self.walks[reader as usize] = Walk::default();
+        }
+    }
+
     fn step_reader(&mut self, reader: u32) {
+        let work = self.record.readers[reader as usize];
+        let answer = step_reader(&mut self.record, &self.slots, reader);
+        match work {
+            Reader::Idle => assert_eq!(answer, Err(Refusal::Idle)),
+            Reader::LookingUp { .. } => self.lookup_stepped(reader, answer),
+            Reader::Walking { .. } => self.walk_stepped(reader, answer),
+        }
+    }
+
+    fn walk_stepped(&mut self, reader: u32, answer: Result<Step, Refusal>) {
+        let (word, is_last) = match answer {
+            Ok(Step::Word(word)) => (word, false),
+            Ok(Step::LastWord(word)) => (word, true),
+            other => panic!("a walk's step gave {other:?}"),
+        };
+        let walk = &mut self.walks[reader as usize];
+        walk.stepped(word, is_last, &self.list, &mut self.walks_ended);
+    }
+
+    fn lookup_stepped(&mut self, reader: u32, answer: Result<Step, Refusal>) {
         let lookup = &mut self.lookups[reader as usize];
         lookup.steps += 1;
-        let answer = match step_reader(&mut self.record, &self.slots, reader) {
-            Ok(Step::Underway) | Err(Refusal::Idle) => return,
+        let answer = match answer {
+            Ok(Step::Underway) => return,
             Ok(Step::Found(value)) => Some(value),
             Ok(Step::Unknown) => None,
             other => panic!("a lookup's step gave {other:?}"),

@@ -39,13 +39,16 @@ const HISTORIES: usize = 3000;
 const SAMPLE: &[u8] = include_bytes!("../crates/orders/stdin");
 const SAMPLE_PRINTED: &[u8] = include_bytes!("../crates/orders/stdout");
 
-/// Histories on larger panels.
-const LARGER: [Sizes; 4] = [
-    sizes(4096, 64, 5000, 30_000),
-    sizes(4096, 1, 3000, 20_000),
-    sizes(257, 33, 300, 20_000),
-    sizes(1, 64, 3, 3000),
+/// Histories on larger panels, and how many walks at least must come to their end in each.
+const LARGER: [(Sizes, usize); 4] = [
+    (sizes(4096, 64, 5000, 30_000), 1),
+    (sizes(4096, 1, 3000, 20_000), 1),
+    (sizes(257, 33, 300, 20_000), 10),
+    (sizes(1, 64, 3, 3000), 50),
 ];
+
+/// The same of all small histories.
+const WALKS_OF_SMALL: usize = 10_000;
 
 const fn sizes(m: u32, k: u32, points: u32, lines: u32) -> Sizes {
     Sizes {
@@ -101,8 +104,16 @@ const OCCURRING: [&str; 41] = [
     "  the slots show the plain list\n",
 ];
 
-/// Compares all inputs, and gives the texts that never occurred behind a history.
-fn compare_all(comparison: &mut Comparison) -> Result<Vec<&'static str>, String> {
+/// What was seen in the outputs of the histories.
+struct Seen {
+    /// The texts that never occurred.
+    missing: Vec<&'static str>,
+    /// The walks that came to their end.
+    walks: usize,
+}
+
+/// Compares all inputs.
+fn compare_all(comparison: &mut Comparison) -> Result<Seen, String> {
     comparison.compare(SAMPLE)?;
     for input in orders_edges::inputs() {
         comparison.compare(&input)?;
@@ -111,16 +122,49 @@ fn compare_all(comparison: &mut Comparison) -> Result<Vec<&'static str>, String>
     for _ in 0..GARBAGE {
         comparison.compare(&orders_garbage::any(&mut random))?;
     }
-    for sizes in &LARGER {
-        comparison.compare(&orders_histories::of(&mut random, sizes))?;
+    let walks_of_larger = compare_larger(comparison, &mut random)?;
+    let small = compare_small(comparison, &mut random)?;
+    Ok(Seen {
+        walks: small.walks + walks_of_larger,
+        ..small
+    })
+}
+
+/// The walks that came to their end.
+fn compare_larger(comparison: &mut Comparison, random: &mut Random) -> Result<usize, String> {
+    let mut walks = 0;
+    for (sizes, needed) in &LARGER {
+        let printed = comparison.compare(&orders_histories::of(random, sizes))?;
+        let ended = walks_ended(&String::from_utf8_lossy(&printed));
+        enough_walks(ended, *needed)?;
+        walks += ended;
     }
+    Ok(walks)
+}
+
+fn compare_small(comparison: &mut Comparison, random: &mut Random) -> Result<Seen, String> {
     let mut missing = OCCURRING.to_vec();
+    let mut walks = 0;
     for _ in 0..HISTORIES {
-        let printed = comparison.compare(&orders_histories::small(&mut random))?;
+        let printed = comparison.compare(&orders_histories::small(random))?;
         let printed = String::from_utf8_lossy(&printed);
         missing.retain(|text| !printed.contains(text));
+        walks += walks_ended(&printed);
     }
-    Ok(missing)
+    enough_walks(walks, WALKS_OF_SMALL)?;
+    Ok(Seen { missing, walks })
+}
+
+/// A walk's last step says so.
+fn walks_ended(printed: &str) -> usize {
+    printed.matches(": last: ").count()
+}
+
+fn enough_walks(ended: usize, needed: usize) -> Result<(), String> {
+    if ended < needed {
+        return Err(format!("{ended} walks came to their end, not {needed}"));
+    }
+    Ok(())
 }
 
 fn run() -> Result<(), String> {
@@ -128,9 +172,9 @@ fn run() -> Result<(), String> {
         return Err("the reference does not print the sample's output".to_string());
     }
     let mut comparison = Comparison::new(orders_protocol::run)?;
-    let missing = compare_all(&mut comparison)?;
+    let Seen { missing, walks } = compare_all(&mut comparison)?;
     println!(
-        "orders_compare: {} inputs compared, {} differences",
+        "orders_compare: {} inputs compared, {} differences; {walks} walks to their end",
         comparison.inputs, comparison.differences
     );
     match (comparison.differences, missing.as_slice()) {

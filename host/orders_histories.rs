@@ -8,6 +8,9 @@ use crate::reference_calls::{apply, Call};
 use crate::reference_record::{Reader, Record, Writer};
 use crate::reference_table::fresh;
 
+/// The second of two readers out of sixteen; the first is reader 0.
+const WALKER: u32 = 15;
+
 /// A history's panel, and what is drawn for it.
 pub struct Sizes {
     pub m: u32,
@@ -83,7 +86,7 @@ impl Drawing<'_> {
         let point = self.point();
         let call = match self.random.within(0, 19) {
             0 | 1 => Call::StartLookup { reader, point },
-            2 if self.slots.len() < 20 => Call::StartWalk { reader },
+            2 if self.may_walk(reader) => Call::StartWalk { reader },
             2..=8 => Call::StepReader {
                 reader: self.busy_reader(reader),
             },
@@ -121,21 +124,29 @@ impl Drawing<'_> {
         }
     }
 
-    /// Two readers out of sixteen, and now and then one that is refused.
+    /// One of the two readers, and now and then one that is refused.
     fn reader(&mut self) -> u32 {
         match self.random.within(0, 30) {
             0 => 16,
             1 => u32::MAX,
-            draw => draw % 2 * 15,
+            draw => draw % 2 * WALKER,
         }
+    }
+
+    /// Where a walk is long only one reader walks, so that the other's lookups go on beside it.
+    fn may_walk(&self, reader: u32) -> bool {
+        self.slots.len() < 20 || reader == WALKER
     }
 
     /// Mostly a reader with work.
     fn busy_reader(&mut self, reader: u32) -> u32 {
-        let mut works = self.record.readers.iter();
-        match works.position(|work| *work != Reader::Idle) {
-            Some(busy) if self.random.within(0, 2) > 0 => busy as u32,
-            _ => reader,
+        let works = self.record.readers.iter().enumerate();
+        let busy = works.filter(|(_, work)| **work != Reader::Idle);
+        let busy: Vec<u32> = busy.map(|(reader, _)| reader as u32).collect();
+        if busy.is_empty() || self.random.within(0, 5) == 0 {
+            reader
+        } else {
+            self.random.one_of(&busy)
         }
     }
 

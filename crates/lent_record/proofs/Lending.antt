@@ -39,7 +39,6 @@ pub record Made (O : Outcome) : Type 2 where
   pub make : StateT O → AnswerT O → O .D
   pub state-is : (h : StateT O) (w : AnswerT O) → O .state (make h w) ≡ h
   pub answer-is : (h : StateT O) (w : AnswerT O) → O .answer (make h w) ≡ w
-  pub whole : (r : O .D) → make (O .state r) (O .answer r) ≡ r
   pub plain : Plains (D.fields (struct O))
   -- a contract says nothing of a state that was handed in by value
   pub last : (h : StateT O) → Last (state-row O .exit yes) h

@@ -7,10 +7,10 @@ use Rattle.in_place.proofs.Panel.{start-outcome, step-outcome, entry-outcome}
 use Rattle.lent_record.proofs.Lending.{Made}
 
 abbrev pub start-made : Made start-outcome
-start-made = record { make = λ h w. record { panel = h; answer = w }; state-is = λ h w. refl; answer-is = λ h w. refl; whole = λ r. refl; plain = StartOutcome′.the-plain; last = λ h. tt; silent = λ h. refl }
+start-made = record { make = λ h w. record { panel = h; answer = w }; state-is = λ h w. refl; answer-is = λ h w. refl; plain = StartOutcome′.the-plain; last = λ h. tt; silent = λ h. refl }
 
 abbrev pub step-made : Made step-outcome
-step-made = record { make = λ h w. record { panel = h; answer = w }; state-is = λ h w. refl; answer-is = λ h w. refl; whole = λ r. refl; plain = StepOutcome′.the-plain; last = λ h. tt; silent = λ h. refl }
+step-made = record { make = λ h w. record { panel = h; answer = w }; state-is = λ h w. refl; answer-is = λ h w. refl; plain = StepOutcome′.the-plain; last = λ h. tt; silent = λ h. refl }
 
 abbrev pub entry-made : Made entry-outcome
-entry-made = record { make = λ h w. record { panel = h; answer = w }; state-is = λ h w. refl; answer-is = λ h w. refl; whole = λ r. refl; plain = EntryOutcome′.the-plain; last = λ h. tt; silent = λ h. refl }
+entry-made = record { make = λ h w. record { panel = h; answer = w }; state-is = λ h w. refl; answer-is = λ h w. refl; plain = EntryOutcome′.the-plain; last = λ h. tt; silent = λ h. refl }

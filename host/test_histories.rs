@@ -1,5 +1,5 @@
 //! Whole operations: the reference by its steps, the direct table and the plain list give the same
-//! answers and leave the same slots and reach.
+//! answers and leave the same slots and reach. A walk behind each history gives the list's slots.
 
 use crate::bench_histories::History;
 use crate::bench_line::Command;
@@ -9,9 +9,13 @@ use crate::plain_list::PlainList;
 use crate::point_table::PointTable;
 use crate::random::Random;
 use crate::reference_record::is_point;
+use crate::reference_table::{start_walk, step_reader, Step};
 use crate::step_table::StepTable;
 
 const HISTORIES: u32 = 2000;
+
+/// The reader that walks.
+const WALKER: u32 = 15;
 
 /// The number of commands carried out.
 pub fn run() -> usize {
@@ -35,7 +39,25 @@ fn compare(history: &History) -> usize {
         assert_eq!(direct.reach(), list.largest_index());
         assert_eq!(by_steps.points(), direct.points());
     }
+    assert_eq!(walked(&mut by_steps), list.slots());
     history.commands.len()
+}
+
+/// The words of a walk to its end.
+fn walked(table: &mut StepTable) -> Vec<u64> {
+    let StepTable { record, slots, .. } = table;
+    assert_eq!(start_walk(record, slots, WALKER), Ok(()));
+    let mut words = Vec::new();
+    loop {
+        match step_reader(record, slots, WALKER) {
+            Ok(Step::Word(word)) => words.push(word),
+            Ok(Step::LastWord(word)) => {
+                words.push(word);
+                return words;
+            }
+            other => panic!("a walk's step gave {other:?}"),
+        }
+    }
 }
 
 fn carry_out(table: &mut impl PointTable, command: Command) -> Answer {

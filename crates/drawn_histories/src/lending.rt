@@ -1,13 +1,9 @@
 // Any call, carried out in place: the record is lent to the call of its kind.
-use answers::CallAnswer;
 use answers::CallOutcome;
-use answers::EntryAnswer;
-use answers::EntryOutcome;
-use answers::StartAnswer;
-use answers::StartOutcome;
-use answers::StepAnswer;
-use answers::StepOutcome;
 use history::Call;
+use history::outcomes::entered;
+use history::outcomes::started;
+use history::outcomes::stepped;
 use lent_record::start_change;
 use lent_record::start_command;
 use lent_record::start_lookup;
@@ -31,40 +27,5 @@ pub(crate) fn lent(panel: Record, slots: &mut [u64], call: Call, frame: &[u8]) -
         Call::StartRemoval { point } => started(start_removal(panel, slots, point)),
         Call::StartCommand => entered(start_command(panel, slots, frame)),
         Call::StepWriter => stepped(step_writer(panel, slots)),
-    }
-}
-
-fn started(left: StartOutcome) -> CallOutcome {
-    let panel = left.panel;
-    let answer = left.answer;
-    match answer {
-        StartAnswer::Started => outcome(panel, CallAnswer::Started),
-        StartAnswer::Refused(refusal) => outcome(panel, CallAnswer::Refused(refusal)),
-    }
-}
-
-fn entered(left: EntryOutcome) -> CallOutcome {
-    let panel = left.panel;
-    let answer = left.answer;
-    match answer {
-        EntryAnswer::Started => outcome(panel, CallAnswer::Started),
-        EntryAnswer::GivenAgain(stored) => outcome(panel, CallAnswer::GivenAgain(stored)),
-        EntryAnswer::Refused(refusal) => outcome(panel, CallAnswer::Refused(refusal)),
-    }
-}
-
-fn stepped(left: StepOutcome) -> CallOutcome {
-    let panel = left.panel;
-    let answer = left.answer;
-    match answer {
-        StepAnswer::Stepped(result) => outcome(panel, CallAnswer::Stepped(result)),
-        StepAnswer::Refused(refusal) => outcome(panel, CallAnswer::Refused(refusal)),
-    }
-}
-
-fn outcome(panel: Record, answer: CallAnswer) -> CallOutcome {
-    CallOutcome {
-        panel: panel,
-        answer: answer,
     }
 }

@@ -1,6 +1,6 @@
 // Any call of document 01 as a value, and `apply`, which carries it out. specs/ states the claim about
 // every list of such calls (demand 3), and proofs/ shows it.
-mod outcomes;
+pub mod outcomes;
 
 ghost use mathlib.Core.Path.{_≡_};
 ghost use Rattle.answers.specs.Answers.{paperCall, outcome};

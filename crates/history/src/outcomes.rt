@@ -41,7 +41,7 @@ fn of_step(answer: StepAnswer) -> CallAnswer
 }
 
 // The outcome of a start among those of all calls.
-pub(crate) fn started(left: StartOutcome) -> CallOutcome
+pub fn started(left: StartOutcome) -> CallOutcome
     ensures { λ r. ⌜ ((slots : List ℕ) → outcome (r .panel) slots (paperCall (r .answer)) ≡ outcome (left .panel) slots (paperStart (left .answer))) ⌝ }
 {
     let panel = left.panel;
@@ -53,7 +53,7 @@ pub(crate) fn started(left: StartOutcome) -> CallOutcome
 }
 
 // The same of the command entry.
-pub(crate) fn entered(left: EntryOutcome) -> CallOutcome
+pub fn entered(left: EntryOutcome) -> CallOutcome
     ensures { λ r. ⌜ ((slots : List ℕ) → outcome (r .panel) slots (paperCall (r .answer)) ≡ outcome (left .panel) slots (paperEntry (left .answer))) ⌝ }
 {
     let panel = left.panel;
@@ -65,7 +65,7 @@ pub(crate) fn entered(left: EntryOutcome) -> CallOutcome
 }
 
 // The same of a step.
-pub(crate) fn stepped(left: StepOutcome) -> CallOutcome
+pub fn stepped(left: StepOutcome) -> CallOutcome
     ensures { λ r. ⌜ ((slots : List ℕ) → outcome (r .panel) slots (paperCall (r .answer)) ≡ outcome (left .panel) slots (paperStep (left .answer))) ⌝ }
 {
     let panel = left.panel;

@@ -9,7 +9,7 @@ use Rattle.whole_operations.specs.Whole.{wholeLookup, wholePut, wholeRemoval, l
 use Rattle.line.specs.declared.commands.CommandLine.{CommandLine}
 use Rattle.line.specs.declared.commands.CommandLine.the-variants.{Put, Lookup, Removal, Unreadable}
 use Rattle.text_buffer.specs.Filling.{Filled, withBytes}
-use Rattle.bench.specs.Printed.{operationLine, unreadableLine}
+use Rattle.bench_lines.specs.Printed.{operationLine, unreadableLine}
 
 -- what a line comes to; lookups are reader 0's, and a line that cannot be read leaves everything as it is
 unfoldable pub runsTo : Record → List ℕ → CommandLine → Outcome

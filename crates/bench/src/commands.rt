@@ -5,9 +5,8 @@ ghost use Rattle.record.specs.declared.Record.{Record};
 ghost use Rattle.whole_operations.specs.Whole.{leaves, paperWritten, recordAfter};
 ghost use Rattle.line.specs.LineState.{commandOf};
 ghost use Rattle.text_buffer.specs.Filling.{filledBy, withBytes, withRoom};
-ghost use Rattle.bench.specs.Printed.{operationLine};
+ghost use Rattle.bench_lines.specs.Printed.{operationLine};
 ghost use Rattle.bench.specs.Lines.{Runs};
-use crate::printing;
 use answers::WholeAnswer;
 use line::CommandLine;
 use line::Line;
@@ -54,7 +53,7 @@ fn wrote(
             let answer = WholeAnswer::Refused(refusal);
             unchanged(
                 reach,
-                printing::operation(filled, text, letter, point, answer),
+                bench_lines::operation(filled, text, letter, point, answer),
             )
         }
         Written::Done(finished) => {
@@ -63,7 +62,7 @@ fn wrote(
             let answer = WholeAnswer::Ended(ending);
             Done {
                 changes: changes,
-                filled: printing::operation(filled, text, letter, point, answer),
+                filled: bench_lines::operation(filled, text, letter, point, answer),
             }
         }
     }
@@ -81,7 +80,7 @@ pub(crate) fn run_line(
     ensures { λ r. ⌜ Runs panel (now (slots .entry)) (commandOf line) number (filledBy (withRoom held (length (now (text .entry))) 128) (now (text .entry))) (r .changes) (now (slots .exit)) (filledBy (r .filled) (now (text .exit))) ⌝ }
 {
     let reach = panel.reach;
-    let filled = printing::room(held, text);
+    let filled = bench_lines::room(held, text);
     match line::command_of(line) {
         CommandLine::Put(put) => {
             let written = whole_put(panel, slots, put.point, put.value);
@@ -91,13 +90,15 @@ pub(crate) fn run_line(
             let answer = whole_lookup(panel, slots, 0, point);
             unchanged(
                 reach,
-                printing::operation(filled, text, b'L', point, answer),
+                bench_lines::operation(filled, text, b'L', point, answer),
             )
         }
         CommandLine::Removal(point) => {
             let written = whole_removal(panel, slots, point);
             wrote(reach, filled, text, b'R', point, written)
         }
-        CommandLine::Unreadable => { unchanged(reach, printing::unreadable(filled, text, number)) }
+        CommandLine::Unreadable => {
+            unchanged(reach, bench_lines::unreadable(filled, text, number))
+        }
     }
 }

@@ -1,7 +1,6 @@
 // The bench program of document 01: reads commands from standard input and runs each to its end.
 mod commands;
 mod input;
-mod printing;
 
 use answers::FreshAnswer;
 use commands::run_line;
@@ -80,14 +79,14 @@ fn run_panel(panel: Record, slots: &mut [u64], bytes: &mut [u8], text: &mut [u8]
         panel: panel,
         reading: line_after(bytes, first),
         number: 1,
-        filled: printing::panel(0, text, panel.m, panel.k),
+        filled: bench_lines::panel(0, text, panel.m, panel.k),
     };
     finish(run_lines(begun, slots, bytes, text), slots, text);
 }
 
 // A first line that is missing, unreadable or refused "ends the run".
 fn refuse(text: &mut [u8]) {
-    flush(printing::panel_refused(0, text), text);
+    flush(bench_lines::panel_refused(0, text), text);
 }
 
 // The record after the lines that have been run, the line behind them, how many there were, and how much
@@ -151,6 +150,6 @@ fn run_whole_lines(begun: Run, slots: &mut [u64], bytes: &[u8], text: &mut [u8])
 fn finish(ended: Run, slots: &[u64], text: &mut [u8]) {
     let panel = ended.panel;
     let points = slot_words::taken::taken_slots(slots) as u64;
-    let room = printing::room(ended.filled, text);
-    flush(printing::finish(room, text, panel.reach, points), text);
+    let room = bench_lines::room(ended.filled, text);
+    flush(bench_lines::finish(room, text, panel.reach, points), text);
 }

@@ -4,7 +4,7 @@ use borrow.Author.Needs.{needs}
 use Rattle.whole_operations.specs.declared.changes.Written.{Written}
 use Rattle.whole_operations.specs.Whole.{paperWritten, recordAfter}
 use Rattle.text_buffer.specs.Filling.{filledBy, withBytes}
-use Rattle.bench.specs.Printed.{operationLine}
+use Rattle.bench_lines.specs.Printed.{operationLine}
 use Rattle.bench.proofs.commands.wrote.Statement.{statement}
 use Rattle.bench.proofs.commands.wrote.Tie as tie
 

@@ -1,9 +1,9 @@
--- `bench::printing::finish` meets its contract: one text behind the other.
+-- `bench_lines::finish` meets its contract: one text behind the other.
 use borrow.Author.Needs.{needs}
 use Rattle.text_buffer.proofs.FillingLaws.{behind, one-byte}
-use Rattle.bench.specs.Printed.{lastLine}
-use Rattle.bench.proofs.printing.finish.Statement.{statement}
-use Rattle.bench.proofs.printing.finish.Tie as tie
+use Rattle.bench_lines.specs.Printed.{lastLine}
+use Rattle.bench_lines.proofs.finish.Statement.{statement}
+use Rattle.bench_lines.proofs.finish.Tie as tie
 
 slice-aggregate-text : tie.Need-slice-aggregate-text
 slice-aggregate-text c = search needs

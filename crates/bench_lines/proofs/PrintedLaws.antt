@@ -8,7 +8,7 @@ use Rattle.answers.specs.declared.WholeAnswer.{WholeAnswer}
 use Rattle.answers.specs.Answers.{lookedUp, placed, removed, endedWith, ended, refused, paperWhole}
 use Rattle.text_buffer.specs.Filling.{Filled, withByte, withBytes, decimalUpTo, decimalOf, spaced}
 use Rattle.text_buffer.proofs.FillingLaws.{behind, one-byte}
-use Rattle.bench.specs.Printed.{lineEnd, refusalShown, endingShown, answerShown, operationLine, unreadableLine, panelLine, refusedPanelLine, lastLine}
+use Rattle.bench_lines.specs.Printed.{lineEnd, refusalShown, endingShown, answerShown, operationLine, unreadableLine, panelLine, refusedPanelLine, lastLine}
 
 pub operation-printed : {named pointed shown after : Filled} (before : Filled) (letter point : ℕ) (told answer : WholeAnswer) → told ≡ answer → named ≡ withByte before letter → pointed ≡ withBytes named (spaced point) → shown ≡ withBytes pointed (answerShown (paperWhole told)) → after ≡ withByte shown 10 → after ≡ withBytes before (operationLine letter point (paperWhole answer))
 unfolding operationLine

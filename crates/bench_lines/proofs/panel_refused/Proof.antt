@@ -1,9 +1,9 @@
--- `bench::printing::panel_refused` meets its contract: the text, and the line end.
+-- `bench_lines::panel_refused` meets its contract: the text, and the line end.
 use borrow.Author.Needs.{needs}
 use Rattle.text_buffer.proofs.FillingLaws.{behind, one-byte}
-use Rattle.bench.specs.Printed.{refusedPanelLine}
-use Rattle.bench.proofs.printing.panel_refused.Statement.{statement}
-use Rattle.bench.proofs.printing.panel_refused.Tie as tie
+use Rattle.bench_lines.specs.Printed.{refusedPanelLine}
+use Rattle.bench_lines.proofs.panel_refused.Statement.{statement}
+use Rattle.bench_lines.proofs.panel_refused.Tie as tie
 
 slice-aggregate-text : tie.Need-slice-aggregate-text
 slice-aggregate-text c = search needs

@@ -1,13 +1,13 @@
--- `bench::printing::ended` meets its contract: what the definition shows of each ending.
+-- `bench_lines::ended` meets its contract: what the definition shows of each ending.
 use mathlib.Core.Path.{_∙_, sym, ap}
 use borrow.Author.Needs.{needs}
 use Rattle.answers.specs.declared.Ending.{Ending as EndingEnum}
 use Rattle.answers.specs.Answers.{paperEnding}
 use Rattle.text_buffer.specs.Filling.{withBytes}
 use Rattle.text_buffer.proofs.FillingLaws.{behind}
-use Rattle.bench.specs.Printed.{endingShown}
-use Rattle.bench.proofs.printing.ended.Statement.{statement}
-use Rattle.bench.proofs.printing.ended.Tie as tie
+use Rattle.bench_lines.specs.Printed.{endingShown}
+use Rattle.bench_lines.proofs.ended.Statement.{statement}
+use Rattle.bench_lines.proofs.ended.Tie as tie
 
 enum-known-ending : tie.Need-enum-known-ending
 enum-known-ending c = search needs

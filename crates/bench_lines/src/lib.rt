@@ -1,10 +1,10 @@
-// The printed lines. Each function gives how much of the buffer is in use.
+// The lines that the bench program prints. Each function gives how much of the buffer is in use.
 ghost use mathlib.Core.Path.{_≡_};
 ghost use lib.ListN.{length};
 ghost use Rattle.refusal.specs.Refusals.{numberOf};
 ghost use Rattle.answers.specs.Answers.{paperEnding, paperWhole};
 ghost use Rattle.text_buffer.specs.Filling.{filledBy, withBytes, withRoom};
-ghost use Rattle.bench.specs.Printed.{refusalShown, endingShown, operationLine, unreadableLine, panelLine, refusedPanelLine, lastLine};
+ghost use Rattle.bench_lines.specs.Printed.{refusalShown, endingShown, operationLine, unreadableLine, panelLine, refusedPanelLine, lastLine};
 use answers::Ending;
 use answers::WholeAnswer;
 use refusal::Refusal;
@@ -17,14 +17,14 @@ use text_buffer::text;
 const LINE: usize = 128;
 
 // Makes room for a line.
-pub(crate) fn room(filled: usize, out: &[u8]) -> usize
+pub fn room(filled: usize, out: &[u8]) -> usize
     ensures { λ r. ⌜ r ≡ withRoom filled (length (now (out .entry))) 128 ⌝ }
 {
     text_buffer::output::room(filled, out, LINE)
 }
 
 // "The first line shows m and k".
-pub(crate) fn panel(filled: usize, out: &mut [u8], m: u32, k: u32) -> usize
+pub fn panel(filled: usize, out: &mut [u8], m: u32, k: u32) -> usize
     ensures { λ r. ⌜ filledBy r (now (out .exit)) ≡ withBytes (filledBy filled (now (out .entry))) (panelLine m k) ⌝ }
 {
     let named = text(filled, out, b"panel");
@@ -33,14 +33,14 @@ pub(crate) fn panel(filled: usize, out: &mut [u8], m: u32, k: u32) -> usize
 }
 
 // "A first line that is missing, unreadable or refused prints "panel ! 1"".
-pub(crate) fn panel_refused(filled: usize, out: &mut [u8]) -> usize
+pub fn panel_refused(filled: usize, out: &mut [u8]) -> usize
     ensures { λ r. ⌜ filledBy r (now (out .exit)) ≡ withBytes (filledBy filled (now (out .entry))) refusedPanelLine ⌝ }
 {
     line_end(text(filled, out, b"panel ! 1"), out)
 }
 
 // "A line it cannot read prints "?", a space and the line's number".
-pub(crate) fn unreadable(filled: usize, out: &mut [u8], line: u64) -> usize
+pub fn unreadable(filled: usize, out: &mut [u8], line: u64) -> usize
     ensures { λ r. ⌜ filledBy r (now (out .exit)) ≡ withBytes (filledBy filled (now (out .entry))) (unreadableLine line) ⌝ }
 {
     line_end(number(text(filled, out, b"?"), out, line), out)
@@ -71,7 +71,7 @@ fn ended(filled: usize, out: &mut [u8], ending: Ending) -> usize
 }
 
 // The line of an operation: its letter, the point, and what it came to.
-pub(crate) fn operation(
+pub fn operation(
     filled: usize,
     out: &mut [u8],
     letter: u8,
@@ -88,7 +88,7 @@ pub(crate) fn operation(
 }
 
 // "the last, at the end of input, the reach and the number of stored points".
-pub(crate) fn finish(filled: usize, out: &mut [u8], reach: u32, points: u64) -> usize
+pub fn finish(filled: usize, out: &mut [u8], reach: u32, points: u64) -> usize
     ensures { λ r. ⌜ filledBy r (now (out .exit)) ≡ withBytes (filledBy filled (now (out .entry))) (lastLine reach points) ⌝ }
 {
     let reached = number(text(filled, out, b"reach"), out, reach as u64);

@@ -1,10 +1,10 @@
--- `bench::printing::operation` meets its contract: the letter, the point, and what the answer shows.
+-- `bench_lines::operation` meets its contract: the letter, the point, and what the answer shows.
 use mathlib.Core.Path.{sym}
 use borrow.Author.Needs.{needs}
-use Rattle.bench.specs.Printed.{answerShown}
-use Rattle.bench.proofs.PrintedLaws.{operation-printed}
-use Rattle.bench.proofs.printing.operation.Statement.{statement}
-use Rattle.bench.proofs.printing.operation.Tie as tie
+use Rattle.bench_lines.specs.Printed.{answerShown}
+use Rattle.bench_lines.proofs.PrintedLaws.{operation-printed}
+use Rattle.bench_lines.proofs.operation.Statement.{statement}
+use Rattle.bench_lines.proofs.operation.Tie as tie
 
 byte-requires : tie.Need-byte-requires
 byte-requires c κs = search needs

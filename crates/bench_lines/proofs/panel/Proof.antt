@@ -1,9 +1,9 @@
--- `bench::printing::panel` meets its contract: one text behind the other.
+-- `bench_lines::panel` meets its contract: one text behind the other.
 use borrow.Author.Needs.{needs}
 use Rattle.text_buffer.proofs.FillingLaws.{behind, one-byte}
-use Rattle.bench.specs.Printed.{panelLine}
-use Rattle.bench.proofs.printing.panel.Statement.{statement}
-use Rattle.bench.proofs.printing.panel.Tie as tie
+use Rattle.bench_lines.specs.Printed.{panelLine}
+use Rattle.bench_lines.proofs.panel.Statement.{statement}
+use Rattle.bench_lines.proofs.panel.Tie as tie
 
 slice-aggregate-text : tie.Need-slice-aggregate-text
 slice-aggregate-text c = search needs

@@ -1,11 +1,11 @@
--- `bench::printing::refused` meets its contract: the mark, and the number of the refusal.
+-- `bench_lines::refused` meets its contract: the mark, and the number of the refusal.
 use mathlib.Core.Path.{_∙_, ap}
 use borrow.Author.Needs.{needs}
 use Rattle.text_buffer.specs.Filling.{withBytes, spaced}
 use Rattle.text_buffer.proofs.FillingLaws.{behind}
-use Rattle.bench.specs.Printed.{refusalShown}
-use Rattle.bench.proofs.printing.refused.Statement.{statement}
-use Rattle.bench.proofs.printing.refused.Tie as tie
+use Rattle.bench_lines.specs.Printed.{refusalShown}
+use Rattle.bench_lines.proofs.refused.Statement.{statement}
+use Rattle.bench_lines.proofs.refused.Tie as tie
 
 slice-aggregate-text : tie.Need-slice-aggregate-text
 slice-aggregate-text c = search needs

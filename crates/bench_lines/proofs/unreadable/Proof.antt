@@ -1,9 +1,9 @@
--- `bench::printing::unreadable` meets its contract: one text behind the other.
+-- `bench_lines::unreadable` meets its contract: one text behind the other.
 use borrow.Author.Needs.{needs}
 use Rattle.text_buffer.proofs.FillingLaws.{behind, one-byte}
-use Rattle.bench.specs.Printed.{unreadableLine}
-use Rattle.bench.proofs.printing.unreadable.Statement.{statement}
-use Rattle.bench.proofs.printing.unreadable.Tie as tie
+use Rattle.bench_lines.specs.Printed.{unreadableLine}
+use Rattle.bench_lines.proofs.unreadable.Statement.{statement}
+use Rattle.bench_lines.proofs.unreadable.Tie as tie
 
 slice-aggregate-text : tie.Need-slice-aggregate-text
 slice-aggregate-text c = search needs

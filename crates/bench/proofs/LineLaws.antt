@@ -1,7 +1,7 @@
 -- A line that was run, from what its operation handed back and what was printed of it.
 use Prim.Native.Nat.{ℕ}
 use mathlib.Core.List.{List}
-use mathlib.Core.Path.{_≡_, ap, _∙_, sym, subst}
+use mathlib.Core.Path.{_≡_, ap, _∙_, subst}
 use Rattle.record.specs.declared.Record.{Record}
 use Rattle.answers.specs.Answers.{Answer, Outcome, outcome}
 use Rattle.whole_operations.specs.declared.changes.Changes.{Changes}

@@ -30,7 +30,7 @@ use denote.Struct.Laws as LL
 use denote.Struct.Struct.{Plains}
 use denote.Triple.Call.{calls-from}
 use Rattle.in_place.proofs.Locals.{locals, past, Blocks, env, past-is, allocate, fill, free, found}
-use Rattle.in_place.proofs.Outcome.{Outcome, StateT, AnswerT, struct, laws, state-row, answer-row, outcome-row, state-ty, answer-ty, outcome-ty, state-val, answer-val, state-typed, answer-typed, outcome-typed}
+use Rattle.in_place.proofs.Outcome.{Outcome, StateT, AnswerT, struct, laws, state-row, answer-row, outcome-row, state-ty, answer-ty, outcome-ty, state-val, answer-val, state-typed, outcome-typed}
 use Rattle.in_place.proofs.Walk.{Handing, Hands, Further, Asked, Entry, Exit}
 use Rattle.lent_record.proofs.LentLocal.{lends-local, comes-home}
 

@@ -29,7 +29,7 @@ use denote.Triple.End.{all, Fins, Outs, outs, lastsOf}
 use denote.Triple.Entry.{Vals}
 use denote.Triple.Spec.{Meets, tripleOf}
 use denote.Triple.Table.{entered}
-use Rattle.in_place.proofs.Outcome.{Outcome, StateT, AnswerT, state-row, outcome-row, state-val}
+use Rattle.in_place.proofs.Outcome.{Outcome, StateT, AnswerT, state-row, outcome-row}
 use Rattle.in_place.proofs.Params.{Param, slots, tys, spells, tellss, passed, args, well-typed}
 use Rattle.in_place.proofs.Passing.{Passing}
 use Rattle.in_place.proofs.Walk.{Further, Entry, Exit}

@@ -1,5 +1,6 @@
 -- A list of calls, from a fresh panel on: the record and the slots as `apply` leaves them, the log of the calls and their answers, the plain list beside them, and what
--- is noted of each operation underway so that the claim can speak of it. When the plain list is fed goes by the writer's accesses; nothing else looks at the record.
+-- is noted of each operation underway so that the claim can speak of it. When the plain list is fed goes by the writer's accesses; of the record nothing else is looked
+-- at but m and k.
 use Prim.Native.Nat.{ℕ, _+_}
 use mathlib.Core.Bool.{Bool, false, cond, not}
 use mathlib.Core.List.{List, [], _∷_, _++_}

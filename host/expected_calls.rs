@@ -1,5 +1,5 @@
-//! The long histories of drawn calls that `vectors` and `in_place_run` run, on four panels: a digest
-//! after each hundred calls.
+//! The long histories of drawn calls that `drawn_histories` runs, on four panels: a digest after each
+//! hundred calls.
 
 use crate::expected_digest::Digest;
 use crate::expected_draws::{Draws, Generator};

@@ -1,22 +1,16 @@
 //! What the program `vectors` has to print, worked out a second time from document 01: the
 //! stored output is compared with this.
 
-mod expected_calls;
 mod expected_commands;
-mod expected_digest;
 mod expected_disabled;
-mod expected_draws;
 mod expected_frames;
 mod expected_fresh;
-mod expected_occurring;
 mod expected_operations;
 mod expected_ranges;
 mod expected_readers;
 mod expected_unreached;
 mod expected_writer_refusals;
 mod expected_writing;
-mod reference_calls;
-mod reference_command;
 mod reference_frame;
 mod reference_record;
 mod reference_table;
@@ -67,5 +61,4 @@ fn main() {
     expected_writing::run();
     expected_writer_refusals::run();
     expected_unreached::run();
-    expected_calls::run();
 }

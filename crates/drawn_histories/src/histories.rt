@@ -11,14 +11,12 @@ use crate::frames::drawn_map;
 use crate::frames::frame_of;
 use crate::lending::lent;
 use crate::numbers::draw;
+use crate::printing;
+use crate::printing::Hundred;
 use crate::state_digest::state_folded;
 use answers::CallOutcome;
 use history::Call;
 use history::apply;
-use printing::line_end;
-use printing::number;
-use printing::text;
-use printing::word;
 use record::Record;
 use slot_words::taken::taken_slots;
 
@@ -96,14 +94,11 @@ fn carried_out(
 fn report(now: Progress, slots: &[u64], made: u32) {
     let panel = now.panel;
     let digest = now.digest;
-    text(b"calls");
-    number(made);
-    text(b": digest");
-    number(digest.first);
-    number(digest.second);
-    text(b" reach");
-    number(panel.reach);
-    text(b" taken");
-    word(taken_slots(slots) as u64);
-    line_end();
+    printing::report(Hundred {
+        made: made,
+        first: digest.first,
+        second: digest.second,
+        reach: panel.reach,
+        taken: taken_slots(slots) as u64,
+    });
 }

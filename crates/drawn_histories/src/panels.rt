@@ -1,9 +1,7 @@
 // The four panels and the histories on them.
 use crate::Way;
 use crate::histories::calls;
-use printing::line_end;
-use printing::number;
-use printing::text;
+use crate::printing;
 use record::CommandAnswer;
 use record::Record;
 use record::Station;
@@ -46,10 +44,7 @@ fn many_slots(way: Way, drawn: u32) -> u32 {
 }
 
 fn panel_over(slots: &mut [u64], m: u32, k: u32) -> Record {
-    text(b"panel");
-    number(m);
-    number(k);
-    line_end();
+    printing::panel(m, k);
     let made = fresh_panel::fresh(slots, m, k);
     made.panel
 }

@@ -1,10 +1,10 @@
 // Commands' changes, given to the writer by hand: the step that ends one stores it in its station.
 use crate::operations::is_idle;
 use crate::operations::open_step;
-use printing::line_end;
-use printing::number;
-use printing::refused;
-use printing::text;
+use crate::printing::line_end;
+use crate::printing::number;
+use crate::printing::refused;
+use crate::printing::text;
 use record::Alteration;
 use record::Change;
 use record::ChangeStage;

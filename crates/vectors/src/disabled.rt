@@ -1,12 +1,12 @@
 // The disabled total and the one-line display.
+use crate::printing::line_end;
+use crate::printing::number;
+use crate::printing::refused;
+use crate::printing::text;
 use answers::DisplayAnswer;
 use answers::TotalAnswer;
 use disabled_points::disabled_point;
 use disabled_points::disabled_total;
-use printing::line_end;
-use printing::number;
-use printing::refused;
-use printing::text;
 use record::Record;
 use record::parts::fresh_record;
 use slot_words::word::word_of;

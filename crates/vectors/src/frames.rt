@@ -1,11 +1,11 @@
 // Frames read and written.
+use crate::printing::line_end;
+use crate::printing::number;
+use crate::printing::refused;
+use crate::printing::text;
 use frame::Fields;
 use frame::ReadAnswer;
 use frame::WriteAnswer;
-use printing::line_end;
-use printing::number;
-use printing::refused;
-use printing::text;
 
 pub(crate) fn run() {
     marked_frame();

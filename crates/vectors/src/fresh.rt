@@ -1,10 +1,10 @@
 // Fresh panels, and refused ones.
+use crate::printing::line_end;
+use crate::printing::number;
+use crate::printing::refused;
+use crate::printing::text;
+use crate::printing::word;
 use answers::FreshAnswer;
-use printing::line_end;
-use printing::number;
-use printing::refused;
-use printing::text;
-use printing::word;
 
 pub(crate) fn run() {
     fresh(3, 4, 4);

@@ -4,17 +4,17 @@ mod disabled;
 mod frames;
 mod fresh;
 mod operations;
+mod printing;
 mod ranges;
 mod readers;
 mod unreached;
 mod writer_refusals;
 mod writing;
 
-use drawn_histories::Way;
-use printing::line_end;
-use printing::number;
-use printing::refusal;
-use printing::text;
+use crate::printing::line_end;
+use crate::printing::number;
+use crate::printing::refusal;
+use crate::printing::text;
 use refusal::Refusal;
 
 fn main() {
@@ -29,7 +29,6 @@ fn main() {
     writing::run();
     writer_refusals::run();
     unreached::run();
-    drawn_histories::run(Way::ByValue);
 }
 
 // The published check z(10000), and the table's first six values.

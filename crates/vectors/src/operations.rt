@@ -1,16 +1,16 @@
 // The writer's operations by their steps: each line shows a call's answer, and the reach, the counts and
 // the slots that it leaves.
 use crate::fresh::words;
+use crate::printing::line_end;
+use crate::printing::number;
+use crate::printing::refused;
+use crate::printing::text;
+use crate::printing::word;
 use crate::readers::start_answer;
 use answers::Ending;
 use answers::StartOutcome;
 use answers::StepAnswer;
 use answers::StepResult;
-use printing::line_end;
-use printing::number;
-use printing::refused;
-use printing::text;
-use printing::word;
 use record::Record;
 use record::idle::is_writer_idle;
 use record::parts::count_of;

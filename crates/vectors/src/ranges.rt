@@ -1,7 +1,7 @@
 // A record with each of its fields in turn out of range, and at the end of its range.
+use crate::printing::line_end;
+use crate::printing::text;
 use crate::readers::start_answer;
-use printing::line_end;
-use printing::text;
 use reader_starts::start_walk;
 use record::Alteration;
 use record::Change;

@@ -1,14 +1,14 @@
 // Lookups and walks over hand-made slots, one access a step, and the refusals in their order.
 use crate::operations::step_answer;
+use crate::printing::line_end;
+use crate::printing::number;
+use crate::printing::refused;
+use crate::printing::text;
+use crate::printing::word;
 use answers::Ending;
 use answers::StartAnswer;
 use answers::StepAnswer;
 use answers::StepResult;
-use printing::line_end;
-use printing::number;
-use printing::refused;
-use printing::text;
-use printing::word;
 use reader_starts::start_lookup;
 use reader_starts::start_walk;
 use reader_step::step_reader;

@@ -1,10 +1,10 @@
--- `printing::refusal` is safe: a word's letters are in its array.
+-- `vectors::printing::refusal` is safe: a word's letters are in its array.
 use native.Mathlib.Omega.{arith}
 use borrow.Author.Needs.{needs}
 use lib.ListN.{length-take}
 use Rattle.refusal.proofs.Laws.{word-fits}
-use Rattle.printing.proofs.refusal.Statement.{statement}
-use Rattle.printing.proofs.refusal.Tie as tie
+use Rattle.vectors.proofs.printing.refusal.Statement.{statement}
+use Rattle.vectors.proofs.printing.refusal.Tie as tie
 
 number-requires : tie.Need-number-requires
 number-requires c κs = search needs

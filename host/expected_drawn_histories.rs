@@ -1,5 +1,5 @@
-//! What the program `in_place_run` has to print, worked out a second time from document 01: the same
-//! drawn calls as those of `vectors`, which is all that it runs.
+//! What the program `drawn_histories` has to print, worked out a second time from document 01: the same
+//! lines for the calls by value and for the calls in place.
 
 mod expected_calls;
 mod expected_digest;
@@ -18,5 +18,8 @@ mod reference_frame;
 mod reference_table;
 
 fn main() {
-    expected_calls::run();
+    for way in ["by value", "in place"] {
+        println!("{way}");
+        expected_calls::run();
+    }
 }

@@ -1,6 +1,8 @@
 -- Records made, and a part of one read or replaced.
 use Prim.Native.Nat.{ℕ, zero, suc}
+use mathlib.Core.Bool.{cond}
 use mathlib.Core.List.{List}
+use lib.Dec.{ltb}
 use lib.ListN.{getD, set, replicate}
 use Rattle.record.specs.declared.Record.{Record}
 use Rattle.record.specs.declared.Reader.{Reader}
@@ -113,6 +115,10 @@ workOf panel reader = getD (panel .readers) reader idleReader .work
 -- the record with that reader's work replaced; above 15 the record as it is
 unfoldable pub withWork : Record → ℕ → ReaderWork → Record
 withWork panel reader work = withReaders panel (set (panel .readers) reader (readerWith work))
+
+-- the place of a reader's work among the readers; 0 where there is no such reader
+unfoldable pub readerPlace : ℕ → ℕ
+readerPlace reader = cond (ltb 15 reader) 0 reader
 
 -- the element of that number, counted from 1; of another number what stands for none
 unfoldable pub numbered : {A : Type 0} → List A → ℕ → A → A

@@ -1,7 +1,7 @@
 // Records made, and a part of one read or replaced. A part of an array is read from a copy of that array,
 // since the compiler would copy the whole record for it.
 ghost use mathlib.Core.Path.{_≡_};
-ghost use Rattle.record.specs.Parts.{unheardStation, freshRecord, workOf, withWork, withWriter, withReach, countOf, withCount, stationOf, withStation};
+ghost use Rattle.record.specs.Parts.{unheardStation, freshRecord, workOf, withWork, readerPlace, withWriter, withReach, countOf, withCount, stationOf, withStation};
 use crate::CommandAnswer;
 use crate::Reader;
 use crate::ReaderWork;
@@ -67,6 +67,16 @@ pub fn with_work(panel: Record, reader: u32, work: ReaderWork) -> Record
         next.readers[reader as usize] = Reader { work: work };
     }
     next
+}
+
+// The place of a reader's work among the readers; 0 where there is no such reader.
+pub fn reader_place(reader: u32) -> usize
+    ensures { λ r. ⌜ r ≡ readerPlace reader ⌝ }
+{
+    if 15 < reader {
+        return 0;
+    }
+    reader as usize
 }
 
 // The record with the writer's work replaced.

@@ -1,6 +1,6 @@
 -- Document 01, "Steps": a reader's step of a lookup or of a walk.
-use Prim.Native.Nat.{ℕ, _+_}
-use mathlib.Core.Bool.{cond, not}
+use Prim.Native.Nat.{ℕ, zero, suc, _+_}
+use mathlib.Core.Bool.{Bool, cond, not}
 use mathlib.Core.List.{List}
 use lib.Dec.{ltb}
 use lib.ListN.{length}
@@ -20,7 +20,8 @@ use Rattle.search.specs.declared.Searched.the-variants.{Going, Answered}
 use Rattle.search.specs.declared.SearchAnswer.{SearchAnswer}
 use Rattle.search.specs.declared.SearchAnswer.the-variants.{Found, Unknown}
 use Rattle.reader_step.specs.declared.Effect.{Effect}
-use Rattle.answers.specs.Answers.{Ending, lookedUp, endedWith, Answer, underway, ended, walked, walkedLast, Outcome, outcome, unlessRefused, paperResult}
+use Rattle.reader_step.specs.declared.SteppedReader.{SteppedReader}
+use Rattle.answers.specs.Answers.{Ending, lookedUp, endedWith, Answer, underway, ended, walked, walkedLast, refused, Outcome, outcome, unlessRefused, paperResult, paperStep}
 use Rattle.search.specs.Access.{wordRead}
 use Rattle.search.specs.Search.{searchAccess, searchAdvance}
 
@@ -38,6 +39,10 @@ pub record ReaderEffect : Type 0 where
 -- the same in the code's enum
 abbrev pub paperEffect : Effect → ReaderEffect
 paperEffect effect = record { work = effect .work; answer = paperResult (effect .result) }
+
+-- a reader's work and the answer, after a step
+abbrev pub paperStepped : SteppedReader → ReaderEffect
+paperStepped stepped = record { work = stepped .reader .work; answer = paperStep (stepped .answer) }
 
 -- a lookup ends "with its value", or "with 7"
 unfoldable pub lookupEnding : SearchAnswer → Ending
@@ -65,10 +70,23 @@ readerAdvance m reach Idle word = record { work = Idle; answer = underway }
 readerAdvance m reach (LookingUp lookup) word = lookupAdvance reach lookup word
 readerAdvance m reach (Walking walk) word = walkAdvance m walk word
 
--- "reader's step 1, 3, 5"
+-- "reader's step 1, 3, 5", of a reader with this work, by whether the record is in range
+unfoldable pub workRefusal : Bool → ℕ → ReaderWork → ℕ
+workRefusal fits reader work = refuseIf (not fits) 1 (refuseIf (ltb 15 reader) 3 (refuseIf (isReaderIdle work) 5 0))
+
+-- the same, of a reader of this record
 unfoldable pub stepRefusal : ℕ → Record → ℕ → ℕ
-stepRefusal lent panel reader =
-    refuseIf (not (inRange lent panel)) 1 (refuseIf (ltb 15 reader) 3 (refuseIf (isReaderIdle (workOf panel reader)) 5 0))
+stepRefusal lent panel reader = workRefusal (inRange lent panel) reader (workOf panel reader)
+
+-- what a call comes to for a reader if it is refused with that number: it leaves the work; or, where that is 0, as given
+unfoldable pub effectUnless : ℕ → ReaderWork → ReaderEffect → ReaderEffect
+effectUnless zero work effect = effect
+effectUnless (suc n) work effect = record { work = work; answer = refused (suc n) }
+
+-- a reader's step by what it needs: whether the record is in range, m, the reach, the reader's work and the slots
+unfoldable pub stepWork : Bool → ℕ → ℕ → ℕ → ReaderWork → List ℕ → ReaderEffect
+stepWork fits reader m reach work slots =
+    effectUnless (workRefusal fits reader work) work (readerAdvance m reach work (wordRead slots (readerAccess m work)))
 
 -- the reader's new work in its place, and the answer
 unfoldable pub afterStep : Record → List ℕ → ℕ → ReaderEffect → Outcome

@@ -3,14 +3,13 @@
 ghost use mathlib.Core.Path.{_≡_};
 ghost use Rattle.refusal.specs.Refusals.{paperJudged};
 ghost use Rattle.answers.specs.Answers.{paperEnding, paperStep, outcome};
-ghost use Rattle.answers.specs.declared.StepAnswer.the-variants.{Stepped};
-ghost use Rattle.reader_step.specs.Reader.{readerAccess, paperEffect, lookupEnding, lookupAdvance, walkAdvance, readerAdvance, stepRefusal, stepReader};
-ghost use Rattle.record.specs.Parts.{withWork};
+ghost use Rattle.reader_step.specs.Reader.{readerAccess, paperEffect, paperStepped, lookupEnding, lookupAdvance, walkAdvance, readerAdvance, workRefusal, stepWork, stepReader};
 use answers::Ending;
 use answers::StepAnswer;
 use answers::StepOutcome;
 use answers::StepResult;
 use record::Lookup;
+use record::Reader;
 use record::ReaderWork;
 use record::Record;
 use record::Walk;
@@ -31,6 +30,12 @@ use search::search_advance;
 pub struct Effect {
     pub work: ReaderWork,
     pub result: StepResult,
+}
+
+// A reader after its step, and the answer.
+pub struct SteppedReader {
+    pub reader: Reader,
+    pub answer: StepAnswer,
 }
 
 // Part 1: the access that comes next.
@@ -109,31 +114,55 @@ fn walk_advance(walk: Walk, m: u32, word: u64) -> Effect
     }
 }
 
-// Document 01's order: 1, 3, 5.
-fn judge_step(panel: Record, lent: usize, reader: u32) -> Judged
-    ensures { λ r. ⌜ paperJudged r ≡ stepRefusal lent panel reader ⌝ }
+fn stepped(effect: Effect) -> SteppedReader
+    ensures { λ r. ⌜ paperStepped r ≡ paperEffect effect ⌝ }
 {
-    if !is_in_range(panel, lent) {
+    let work = effect.work;
+    let result = effect.result;
+    SteppedReader {
+        reader: Reader { work: work },
+        answer: StepAnswer::Stepped(result),
+    }
+}
+
+// Document 01's order: 1, 3, 5.
+fn judge_step(fits: bool, reader: u32, work: ReaderWork) -> Judged
+    ensures { λ r. ⌜ paperJudged r ≡ workRefusal fits reader work ⌝ }
+{
+    if !fits {
         return Judged::Refused(Refusal::Misfit);
     }
     if 15 < reader {
         return Judged::Refused(Refusal::Reader);
     }
-    if is_reader_idle(work_of(panel, reader)) {
+    if is_reader_idle(work) {
         return Judged::Refused(Refusal::Idle);
     }
     Judged::Allowed
 }
 
-// The reader's new work in its place, and the answer.
-fn finish(panel: Record, reader: u32, next: Effect) -> StepOutcome
-    ensures { λ r. ⌜ (r .panel ≡ withWork panel reader (next .work)) × (r .answer ≡ Stepped (next .result)) ⌝ }
+// The next step of a reader's lookup or walk, by what it needs of the record: whether the record is in
+// range, the reader as found there, m and the reach. A step that is refused leaves the reader as it is.
+pub fn step_work(
+    fits: bool,
+    reader: u32,
+    found: Reader,
+    m: u32,
+    reach: u32,
+    slots: &[u64],
+) -> SteppedReader
+    ensures { λ r. ⌜ paperStepped r ≡ stepWork fits reader m reach (found .work) (now (slots .entry)) ⌝ }
 {
-    let work = next.work;
-    let result = next.result;
-    StepOutcome {
-        panel: with_work(panel, reader, work),
-        answer: StepAnswer::Stepped(result),
+    let work = found.work;
+    match judge_step(fits, reader, work) {
+        Judged::Refused(refusal) => SteppedReader {
+            reader: found,
+            answer: StepAnswer::Refused(refusal),
+        },
+        Judged::Allowed => {
+            let word = word_read(slots, reader_access(work, m));
+            stepped(reader_advance(work, m, reach, word))
+        }
     }
 }
 
@@ -141,19 +170,16 @@ fn finish(panel: Record, reader: u32, next: Effect) -> StepOutcome
 pub fn step_reader(panel: Record, slots: &[u64], reader: u32) -> StepOutcome
     ensures { λ r. ⌜ outcome (r .panel) (now (slots .entry)) (paperStep (r .answer)) ≡ stepReader panel (now (slots .entry)) reader ⌝ }
 {
-    match judge_step(panel, slots.len(), reader) {
-        Judged::Refused(refusal) => StepOutcome {
-            panel: panel,
-            answer: StepAnswer::Refused(refusal),
-        },
-        Judged::Allowed => {
-            let work = work_of(panel, reader);
-            let word = word_read(slots, reader_access(work, panel.m));
-            finish(
-                panel,
-                reader,
-                reader_advance(work, panel.m, panel.reach, word),
-            )
-        }
+    let fits = is_in_range(panel, slots.len());
+    let found = Reader {
+        work: work_of(panel, reader),
+    };
+    let next = step_work(fits, reader, found, panel.m, panel.reach, slots);
+    let after = next.reader;
+    let work = after.work;
+    let answer = next.answer;
+    StepOutcome {
+        panel: with_work(panel, reader, work),
+        answer: answer,
     }
 }

@@ -27,7 +27,7 @@ use Rattle.search.specs.declared.Searched.{Searched}
 use Rattle.search.specs.declared.Searched.the-variants.{Going, Answered}
 use Rattle.answers.specs.Answers.{Answer, started, Outcome, outcome}
 use Rattle.reader_step.specs.Reader.{readerAccess, ReaderEffect, lookupEffect, lookupAdvance, walkAdvance, readerAdvance, afterStep, readerRuns, stepRefusal, stepReader}
-use Rattle.reader_starts.specs.Starts.{lookupRefusal, startReader, startLookup, startWalk}
+use Rattle.reader_starts.specs.Starts.{lookupRefusal, lookupWorkRefusal, startReader, startLookup, startWalk}
 use Rattle.reader_starts.specs.ReaderFacts.{OnlyWorkOf, Met, workAfter, ReachWithin, at-end, at-step}
 use Rattle.answers.proofs.AnswerLaws.{unless}
 use Rattle.search.proofs.SearchLaws.{searchLeft, searchedLeft, searchedInRange, OneStep, search-step, slotRead, search-inside}
@@ -126,7 +126,7 @@ module _ (panel : Record) (slots : List ℕ) (reader : ℕ) (fits : inRange (len
   start-in-range n work h = unless kept n panel slots _ (λ answer. fits) (λ e. with-work-in-range (length slots) panel fits reader work (h e))
 
   pub lookup-start-in-range : (point : ℕ) → inRange (length slots) (startLookup panel slots reader point .panel) ≡ true
-  unfolding startLookup lookupRefusal workInRange lookupInRange searchInRange
+  unfolding startLookup lookupRefusal lookupWorkRefusal workInRange lookupInRange searchInRange
   lookup-start-in-range point =
       start-in-range _ _
       (λ e.

@@ -25,8 +25,8 @@ use Rattle.record_ranges.proofs.Laws.{fields, sizes-in-range, work-in-range, wi
 use Rattle.answers.specs.Answers.{started, hasEnded, isRefused, outcome}
 use Rattle.search.specs.Access.{wordRead}
 use Rattle.search.proofs.SearchLaws.{searchLeft}
-use Rattle.reader_step.specs.Reader.{readerAccess, ReaderEffect, readerAdvance, afterStep, readerRuns, stepRefusal, stepReader}
-use Rattle.reader_starts.specs.Starts.{lookupRefusal, walkRefusal, startReader, startLookup, startWalk}
+use Rattle.reader_step.specs.Reader.{readerAccess, ReaderEffect, readerAdvance, afterStep, readerRuns, workRefusal, stepRefusal, stepReader}
+use Rattle.reader_starts.specs.Starts.{lookupWorkRefusal, lookupRefusal, walkWorkRefusal, walkRefusal, startReader, startLookup, startWalk}
 use Rattle.reader_starts.proofs.ReaderLaws.{advances}
 use Rattle.history.specs.declared.Call.the-variants.{StartLookup, StartWalk, StepReader}
 use Rattle.history.specs.Log.{Reading, idle, lookingUp, walking, readerStart, roleOf, writingAfter, readingAfter, endedNow, logAfter}
@@ -99,11 +99,11 @@ module _ (world : World) (inv : Inv (world .panel .m) (world .panel .k) world) w
 
   -- the start of a lookup
   lookup-due : (reader point : ℕ) (frame : List ℕ) → lookupRefusal (length slots) panel reader point ≡ refusalDue (world .log) (StartLookup reader point) frame
-  unfolding lookupRefusal refusalDue refuseIf
+  unfolding lookupRefusal lookupWorkRefusal refusalDue refuseIf
   lookup-due reader point frame = rw (inv .fits, reader-is-idle world inv reader)
 
   pub lookup-kept : (reader point : ℕ) (frame : List ℕ) → Kept world (StartLookup reader point) frame (startLookup panel slots reader point)
-  unfolding startLookup startReader lookupRefusal roleOf noReaderNotes searchLeft workInRange lookupInRange searchInRange
+  unfolding startLookup startReader lookupRefusal lookupWorkRefusal roleOf noReaderNotes searchLeft workInRange lookupInRange searchInRange
   lookup-kept reader point frame =
       judged world inv (StartLookup reader point) frame (lookupRefusal (length slots) panel reader point) _ (lookup-due reader point frame)
       (λ allowed.
@@ -122,11 +122,11 @@ module _ (world : World) (inv : Inv (world .panel .m) (world .panel .k) world) w
 
   -- the start of a walk
   walk-due : (reader : ℕ) (frame : List ℕ) → walkRefusal (length slots) panel reader ≡ refusalDue (world .log) (StartWalk reader) frame
-  unfolding walkRefusal refusalDue refuseIf
+  unfolding walkRefusal walkWorkRefusal refusalDue refuseIf
   walk-due reader frame = rw (inv .fits, reader-is-idle world inv reader)
 
   pub walk-kept : (reader : ℕ) (frame : List ℕ) → Kept world (StartWalk reader) frame (startWalk panel slots reader)
-  unfolding startWalk startReader walkRefusal roleOf noReaderNotes workInRange
+  unfolding startWalk startReader walkRefusal walkWorkRefusal roleOf noReaderNotes workInRange
   walk-kept reader frame =
       judged world inv (StartWalk reader) frame (walkRefusal (length slots) panel reader) _ (walk-due reader frame)
       (λ allowed.
@@ -200,11 +200,11 @@ module _ (world : World) (inv : Inv (world .panel .m) (world .panel .k) world) w
         }
 
   step-due : (reader : ℕ) (frame : List ℕ) → stepRefusal (length slots) panel reader ≡ refusalDue (world .log) (StepReader reader) frame
-  unfolding stepRefusal refusalDue refuseIf
+  unfolding stepRefusal workRefusal refusalDue refuseIf
   step-due reader frame = rw (inv .fits, reader-is-idle world inv reader)
 
   pub step-kept : (reader : ℕ) (frame : List ℕ) → Kept world (StepReader reader) frame (stepReader panel slots reader)
-  unfolding stepReader stepRefusal
+  unfolding stepReader stepRefusal workRefusal
   step-kept reader frame =
       judged world inv (StepReader reader) frame (stepRefusal (length slots) panel reader) _ (step-due reader frame)
       (λ allowed.

@@ -23,7 +23,7 @@ use Rattle.slot_words.specs.Points.{validPoint}
 use Rattle.work_ranges.specs.WorkRanges.{workInRange, lookupInRange, searchInRange}
 use Rattle.record_ranges.specs.Ranges.{inRange}
 use Rattle.record_ranges.proofs.Laws.{fields, reach-high, work-in-range, with-work-in-range}
-use Rattle.reader_starts.specs.Starts.{lookupRefusal, startReader, startLookup}
+use Rattle.reader_starts.specs.Starts.{lookupWorkRefusal, lookupRefusal, startReader, startLookup}
 use Rattle.whole_operations.specs.Whole.{untilEnded, readerStep, wholeLookup}
 use Rattle.reader_starts.proofs.ReaderLaws.{stepsLeft, OneLess, advances, none-left}
 use Rattle.whole_operations.specs.WholeFacts.{searchEnd}
@@ -38,7 +38,7 @@ use Rattle.answers.specs.Answers.{Answer, started, underway, refused, walked, w
 use Rattle.answers.proofs.AnswerLaws.{allowed-outcome}
 use Rattle.search.specs.Search.{searchAccess, searchAdvance}
 use Rattle.record.specs.Idle.{isReaderIdle}
-use Rattle.reader_step.specs.Reader.{readerAccess, ReaderEffect, lookupEnding, lookupEffect, lookupAdvance, walkAdvance, readerAdvance, stepRefusal, afterStep, readerRuns, stepReader}
+use Rattle.reader_step.specs.Reader.{readerAccess, ReaderEffect, lookupEnding, lookupEffect, lookupAdvance, walkAdvance, readerAdvance, workRefusal, stepRefusal, afterStep, readerRuns, stepReader}
 use Rattle.search.proofs.SearchLaws.{searchLeft}
 
 -- "A step that ends an operation .. leaves that party idle", and only such a step does
@@ -89,7 +89,7 @@ module _ (reader : ℕ) (panel : Record) (slots : List ℕ) (fits : inRange (len
   effect = readerAdvance (panel .m) (panel .reach) (workOf panel reader) (wordRead slots (readerAccess (panel .m) (workOf panel reader)))
 
   allowed : stepReader panel slots reader ≡ outcome (withWork panel reader (effect .work)) slots (effect .answer)
-  unfolding stepReader stepRefusal refuseIf unlessRefused readerRuns afterStep effect
+  unfolding stepReader stepRefusal workRefusal refuseIf unlessRefused readerRuns afterStep effect
   allowed = rw (fits, le-ltb 15 reader (omega arith), works)
 
   replaced : workOf (withWork panel reader (effect .work)) reader ≡ effect .work
@@ -163,7 +163,7 @@ module _ (panel : Record) (slots : List ℕ) (reader point : ℕ) (e : lookupRef
   work = LookingUp (record { point = point; search = Unread })
 
   judged : (inRange (length slots) panel ≡ true) × (reader ≤ 15) × (validPoint point ≡ true) × (workOf panel reader ≡ Idle)
-  unfolding lookupRefusal
+  unfolding lookupRefusal lookupWorkRefusal
   judged =
       let after-1 = not-refused (not (inRange (length slots) panel)) 1 _ (omega arith) e in
       let after-3 = not-refused (ltb 15 reader) 3 _ (omega arith) (after-1 .1) in

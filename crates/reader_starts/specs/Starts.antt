@@ -56,7 +56,7 @@ startLookup panel slots reader point =
 unfoldable pub startWalk : Record → List ℕ → ℕ → Outcome
 startWalk panel slots reader = startReader (walkRefusal (length slots) panel reader) panel slots reader newWalk
 
--- the same in the code's struct: a reader's work and the answer, after a start
+-- a reader's work and the answer, after a start
 abbrev pub paperStarted : StartedReader → ReaderEffect
 paperStarted after = record { work = after .reader .work; answer = paperStart (after .answer) }
 

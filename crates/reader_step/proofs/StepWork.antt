@@ -1,18 +1,16 @@
 -- A reader's call by what it needs is the call on the whole record: of the reader's work, and in the place of that work.
 use Prim.Native.Nat.{ℕ, zero, suc, _≤_}
-use mathlib.Core.Path.{_≡_, refl, sym, _∙_, ap}
+use mathlib.Core.Path.{_≡_, refl, _∙_, ap}
 use mathlib.Core.Bool.{Bool, true, false, not}
 use mathlib.Core.List.{List}
 use native.Mathlib.Omega.{arith}
 use lib.Dec.{ltb}
 use lib.ListN.{getD, set, length}
-use lib.Seq.{set-getD}
 use Rattle.refusal.specs.declared.Refusal.{Refusal}
 use Rattle.refusal.specs.Refusals.{numberOf}
 use Rattle.refusal.specs.Judging.{refuseIf}
 use Rattle.refusal.proofs.Laws.{number-positive}
 use Rattle.record.specs.declared.Record.{Record}
-use Rattle.record.specs.declared.Reader.{Reader}
 use Rattle.record.specs.declared.ReaderWork.{ReaderWork}
 use Rattle.record.specs.Parts.{idleReader, readerWith, workOf, withReaders, withWork, readerPlace}
 use Rattle.record.specs.Idle.{isReaderIdle}
@@ -47,7 +45,7 @@ module _ (panel : Record) (slots : List ℕ) (reader : ℕ) where
   step-by-work = by-work _ _
 
 -- A reader's call on the work found at the reader's place, and what it makes of it put there. Above 15 that place is another reader's; there the call is
--- refused, whatever it does later, and so leaves that reader's work.
+-- refused, whatever is judged later, and so leaves that reader's work.
 module _ (panel : Record) (slots : List ℕ) (reader : ℕ) (later : ReaderWork → ℕ) (effect : ReaderWork → ReaderEffect) where
   abbrev refusalOf : Bool → Bool → ReaderWork → ℕ
   refusalOf fits above work = refuseIf (not fits) 1 (refuseIf above 3 (later work))

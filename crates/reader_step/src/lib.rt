@@ -114,6 +114,7 @@ fn walk_advance(walk: Walk, m: u32, word: u64) -> Effect
     }
 }
 
+// A step that is carried out.
 fn stepped(effect: Effect) -> SteppedReader
     ensures { λ r. ⌜ paperStepped r ≡ paperEffect effect ⌝ }
 {

@@ -1,7 +1,6 @@
 -- `reader_starts::judge_lookup` meets its contract: the same tests, of the record's range and of the reader's work in it.
-use mathlib.Core.Path.{_∙_}
 use borrow.Author.Needs.{needs}
-use Rattle.reader_starts.specs.Starts.{lookupWorkRefusal, lookupRefusal}
+use Rattle.reader_starts.specs.Starts.{lookupRefusal}
 use Rattle.reader_starts.proofs.judge_lookup.Statement.{statement}
 use Rattle.reader_starts.proofs.judge_lookup.Tie as tie
 

@@ -1,7 +1,14 @@
+pub mod Behind
+pub mod Calls
+pub mod Elements
+pub mod Frame
 pub mod InPlace
 pub mod Locals
 pub mod Outcome
 pub mod Panel
 pub mod Params
 pub mod Passing
+pub mod RecordFields
+pub mod Steps
+pub mod Taken
 pub mod Walk

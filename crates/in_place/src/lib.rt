@@ -2,6 +2,7 @@
 // out, calls the function that takes and gives it by value, and puts the new record back.
 ghost use mathlib.Core.Path.{_≡_};
 ghost use Rattle.answers.specs.Answers.{paperStart, paperEntry, paperStep, outcome};
+ghost use Rattle.record_ranges.specs.Ranges.{inRange};
 ghost use Rattle.reader_step.specs.Reader.{stepReader};
 ghost use Rattle.reader_starts.specs.Starts.{startLookup, startWalk};
 ghost use Rattle.writer.specs.Starts.{startPut, startChange, startRemoval};
@@ -10,7 +11,17 @@ ghost use Rattle.command.specs.Command.{startCommand};
 use answers::EntryAnswer;
 use answers::StartAnswer;
 use answers::StepAnswer;
+use reader_step::step_work;
 use record::Record;
+use record::parts::reader_place;
+use record_ranges::is_in_range;
+
+// Whether every field is in range, for a number of slots lent.
+fn fits_at(panel: &Record, lent: usize) -> bool
+    ensures { λ r. ⌜ r ≡ inRange lent (now (panel .entry)) ⌝ }
+{
+    is_in_range(*panel, lent)
+}
 
 // Starts a reader's lookup of a point.
 pub fn start_lookup(panel: &mut Record, slots: &[u64], reader: u32, point: u32) -> StartAnswer
@@ -34,9 +45,12 @@ pub fn start_walk(panel: &mut Record, slots: &[u64], reader: u32) -> StartAnswer
 pub fn step_reader(panel: &mut Record, slots: &[u64], reader: u32) -> StepAnswer
     ensures { λ r. ⌜ outcome (now (panel .exit)) (now (slots .entry)) (paperStep r) ≡ stepReader (now (panel .entry)) (now (slots .entry)) reader ⌝ }
 {
-    let after = reader_step::step_reader(*panel, slots, reader);
-    *panel = after.panel;
-    after.answer
+    let fits = fits_at(panel, slots.len());
+    let at = reader_place(reader);
+    let found = panel.readers[at];
+    let next = step_work(fits, reader, found, panel.m, panel.reach, slots);
+    panel.readers[at] = next.reader;
+    next.answer
 }
 
 // Starts a put of a point and its value.

@@ -14,7 +14,7 @@ use Rattle.record.specs.declared.ReaderWork.{ReaderWork}
 use Rattle.record.specs.declared.WriterWork.{WriterWork}
 use Rattle.record.specs.declared.Station.{Station}
 use Rattle.record.specs.Parts.{idleReader, freshRecord, workOf, withWork, withWriter, withReach, countOf, withCount, withStation, withCounts, withReaders, withStations}
-use Rattle.record_ranges.specs.Ranges.{all, sizesInRange, countsInRange, readerInRange, readersInRange, stationInRange, stationsInRange, inRange}
+use Rattle.record_ranges.specs.Ranges.{all, sizesInRange, countsInRange, readerInRange, readersInRange, stationInRange, stationsInRange, partsInRange, inRange}
 use Rattle.work_ranges.specs.WorkRanges.{workInRange, writerInRange}
 use Rattle.record_ranges.proofs.All.{all-at, all-set, all-take, all-replicate}
 use Rattle.record_ranges.proofs.NumberedRanges.{all-replaced, all-first-replaced, all-first-at}
@@ -52,7 +52,7 @@ pub record Fields (lent : ℕ) (panel : Record) : Type 0 where
 
 module _ (lent : ℕ) (panel : Record) where
   pub fields : inRange lent panel ≡ true → Fields lent panel
-  unfolding inRange
+  unfolding inRange partsInRange
   fields h =
       let a = both-right (sizesInRange (panel .m) (panel .k) lent) _ h in
       let b = both-right (leb (panel .reach) (panel .k)) _ a in
@@ -84,7 +84,7 @@ module _ (lent : ℕ) (panel : Record) where
 
   -- the range test from its parts
   pub in-range : Fields lent panel → inRange lent panel ≡ true
-  unfolding inRange
+  unfolding inRange partsInRange
   in-range f =
       both-true _ _ (f .sizes-fit)
       (both-true _ _ (le-leb (panel .reach) (panel .k) (f .reach-fits))
@@ -170,7 +170,7 @@ module _ (lent : ℕ) (panel : Record) (h : inRange lent panel ≡ true) where
       (all-first-at (λ (c : ℕ). leb c (panel .m)) (panel .k) (panel .counts) index 0 (fields lent panel h .counts-fit) (leb·zero (panel .m)) e)
 
 pub fresh-in-range : (m k lent : ℕ) → sizesInRange m k lent ≡ true → inRange lent (freshRecord m k) ≡ true
-unfolding inRange freshRecord countsInRange writerInRange readersInRange readerInRange workInRange stationsInRange stationInRange all both either
+unfolding inRange partsInRange freshRecord countsInRange writerInRange readersInRange readerInRange workInRange stationsInRange stationInRange all both either
 fresh-in-range m k lent h =
     both-true _ _ h
     (both-true _ _ (leb·zero k)
@@ -178,5 +178,5 @@ fresh-in-range m k lent h =
 
 -- "the record handed back is all zeros": every later call with it is refused
 pub zeros-out-of-range : (lent : ℕ) → inRange lent (freshRecord 0 0) ≡ false
-unfolding inRange freshRecord sizesInRange both within
+unfolding inRange partsInRange freshRecord sizesInRange both within
 zeros-out-of-range lent = refl

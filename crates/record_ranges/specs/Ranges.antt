@@ -8,6 +8,7 @@ use Rattle.conditions.specs.Conditions.{both, either, within}
 use Rattle.record.specs.declared.Record.{Record}
 use Rattle.record.specs.declared.Reader.{Reader}
 use Rattle.record.specs.declared.Station.{Station}
+use Rattle.record.specs.declared.WriterWork.{WriterWork}
 use Rattle.slot_words.specs.Points.{validPoint}
 use Rattle.work_ranges.specs.WorkRanges.{workInRange, writerInRange}
 
@@ -42,11 +43,14 @@ stationInRange station =
 unfoldable pub stationsInRange : List Station → Bool
 stationsInRange stations = all stationInRange stations
 
--- every field in range, for a number of slots lent; "the reach (0 to k)"
+-- every field in range, for a number of slots lent, by what holds of the readers and of the stations; "the reach (0 to k)"
+unfoldable pub partsInRange : ℕ → ℕ → ℕ → ℕ → List ℕ → WriterWork → Bool → Bool → Bool
+partsInRange lent m k reach counts work readers stations =
+    both (sizesInRange m k lent)
+    (both (leb reach k) (both (countsInRange m k counts) (both (writerInRange k work) (both readers stations))))
+
+-- every field of a record in range
 unfoldable pub inRange : ℕ → Record → Bool
 inRange lent panel =
-    both (sizesInRange (panel .m) (panel .k) lent)
-    (both (leb (panel .reach) (panel .k))
-    (both (countsInRange (panel .m) (panel .k) (panel .counts))
-    (both (writerInRange (panel .k) (panel .writer .work))
-    (both (readersInRange (panel .m) (panel .k) (panel .readers)) (stationsInRange (panel .stations))))))
+    partsInRange lent (panel .m) (panel .k) (panel .reach) (panel .counts) (panel .writer .work) (readersInRange (panel .m) (panel .k) (panel .readers))
+    (stationsInRange (panel .stations))

@@ -1,11 +1,13 @@
 // The ranges of the record's fields, one function for each group, joined in `is_in_range`.
 ghost use mathlib.Core.Path.{_≡_};
-ghost use Rattle.record_ranges.specs.Ranges.{readerInRange, readersInRange, stationInRange, stationsInRange, countsInRange, sizesInRange, inRange};
+ghost use Rattle.record_ranges.specs.Ranges.{readerInRange, readersInRange, stationInRange, stationsInRange, countsInRange, sizesInRange, partsInRange, inRange};
+ghost use Rattle.conditions.specs.Conditions.{both};
 use conditions::both_hold;
 use conditions::is_within;
 use record::Reader;
 use record::Record;
 use record::Station;
+use record::Writer;
 use slot_words::points::is_valid_point;
 use work_ranges::is_work_in_range;
 use work_ranges::is_writer_in_range;
@@ -78,29 +80,63 @@ pub fn are_sizes_in_range(m: u32, k: u32, lent: usize) -> bool
     )
 }
 
+// Whether what was tested before and this reader are in range: a turn of a loop over readers behind a
+// reference, which no function by value has.
+pub fn reader_joined(before: bool, reader: Reader, m: u32, k: u32) -> bool
+    ensures { λ r. ⌜ r ≡ both before (readerInRange m k reader) ⌝ }
+{
+    both_hold(before, is_reader_in_range(reader, m, k))
+}
+
+// The same of a station.
+pub fn station_joined(before: bool, station: Station) -> bool
+    ensures { λ r. ⌜ r ≡ both before (stationInRange station) ⌝ }
+{
+    both_hold(before, is_station_in_range(station))
+}
+
+// Whether every field is in range, by whether the readers and the stations are.
+pub fn are_parts_in_range(
+    lent: usize,
+    m: u32,
+    k: u32,
+    reach: u32,
+    counts: [u32; 64],
+    writer: Writer,
+    readers: bool,
+    stations: bool,
+) -> bool
+    ensures { λ r. ⌜ r ≡ partsInRange lent m k reach counts (writer .work) readers stations ⌝ }
+{
+    let work = writer.work;
+    both_hold(
+        are_sizes_in_range(m, k, lent),
+        both_hold(
+            reach <= k,
+            both_hold(
+                are_counts_in_range(counts, m, k),
+                both_hold(is_writer_in_range(work, k), both_hold(readers, stations)),
+            ),
+        ),
+    )
+}
+
 // Whether every field is in range, for a number of slots lent; where not, a call gets refusal 1.
 pub fn is_in_range(panel: Record, lent: usize) -> bool
     ensures { λ r. ⌜ r ≡ inRange lent panel ⌝ }
 {
     let counts = panel.counts;
     let writer = panel.writer;
-    let work = writer.work;
     let readers = panel.readers;
     let stations = panel.stations;
-    both_hold(
-        are_sizes_in_range(panel.m, panel.k, lent),
-        both_hold(
-            panel.reach <= panel.k,
-            both_hold(
-                are_counts_in_range(counts, panel.m, panel.k),
-                both_hold(
-                    is_writer_in_range(work, panel.k),
-                    both_hold(
-                        are_readers_in_range(readers, panel.m, panel.k),
-                        are_stations_in_range(stations),
-                    ),
-                ),
-            ),
-        ),
+    are_parts_in_range(
+        lent,
+        panel.m,
+        panel.k,
+        panel.reach,
+        counts,
+        writer,
+        are_readers_in_range(readers, panel.m, panel.k),
+        are_stations_in_range(stations),
     )
 }

@@ -1,17 +1,8 @@
--- `record_ranges::is_in_range` meets its contract: it joins its tests as the definition does.
+-- `record_ranges::is_in_range` meets its contract: the two arrays are tested, and the rest by `are_parts_in_range`.
 use borrow.Author.Needs.{needs}
 use Rattle.record_ranges.specs.Ranges.{inRange}
 use Rattle.record_ranges.proofs.is_in_range.Statement.{statement}
 use Rattle.record_ranges.proofs.is_in_range.Tie as tie
-
-are-sizes-in-range-requires : tie.Need-are-sizes-in-range-requires
-are-sizes-in-range-requires c κs = search needs
-
-are-counts-in-range-requires : tie.Need-are-counts-in-range-requires
-are-counts-in-range-requires c κs = search needs
-
-is-writer-in-range-requires : tie.Need-is-writer-in-range-requires
-is-writer-in-range-requires c κs = search needs
 
 are-readers-in-range-requires : tie.Need-are-readers-in-range-requires
 are-readers-in-range-requires c κs = search needs
@@ -19,20 +10,8 @@ are-readers-in-range-requires c κs = search needs
 are-stations-in-range-requires : tie.Need-are-stations-in-range-requires
 are-stations-in-range-requires c κs = search needs
 
-both-hold-requires : tie.Need-both-hold-requires
-both-hold-requires c κs = search needs
-
-both-hold-requires-2 : tie.Need-both-hold-requires-2
-both-hold-requires-2 c κs = search needs
-
-both-hold-requires-3 : tie.Need-both-hold-requires-3
-both-hold-requires-3 c κs = search needs
-
-both-hold-requires-4 : tie.Need-both-hold-requires-4
-both-hold-requires-4 c κs = search needs
-
-both-hold-requires-5 : tie.Need-both-hold-requires-5
-both-hold-requires-5 c κs = search needs
+are-parts-in-range-requires : tie.Need-are-parts-in-range-requires
+are-parts-in-range-requires c κs = search needs
 
 returns : tie.Need-returns
 unfolding inRange
@@ -42,14 +21,7 @@ pub is-in-range-spec : {M : Type 1} → statement M
 is-in-range-spec =
     tie.close
     (tie.spec
-    are-sizes-in-range-requires
-    are-counts-in-range-requires
-    is-writer-in-range-requires
     are-readers-in-range-requires
     are-stations-in-range-requires
-    both-hold-requires
-    both-hold-requires-2
-    both-hold-requires-3
-    both-hold-requires-4
-    both-hold-requires-5
+    are-parts-in-range-requires
     returns)

@@ -18,6 +18,10 @@ pub map-map : {A B C : Type 0} (g : B → C) (f : A → B) (xs : List A) → map
 map-map g f [] = refl
 map-map g f (x ∷ xs) = ap (λ (t : List _). g (f x) ∷ t) (map-map g f xs)
 
+pub map-same : {A : Type 0} (xs : List A) → map (λ (x : A). x) xs ≡ xs
+map-same [] = refl
+map-same (x ∷ xs) = ap (λ (t : List _). x ∷ t) (map-same xs)
+
 pub getD-map : {A B : Type 0} (f : A → B) (xs : List A) (k : ℕ) (d : A) → getD (map f xs) k (f d) ≡ f (getD xs k d)
 getD-map f [] k d = refl
 getD-map f (x ∷ xs) zero d = refl

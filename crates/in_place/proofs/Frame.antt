@@ -65,9 +65,9 @@ module _ {M : Type 1} {𝓤 : URA M} {H : Heap 𝓤} {A : Atoms 𝓤} {K : Type 
   allocate t [] k = alloc0 t $ k tt
   allocate {Γ} t (τ ∷ τs) {Kt} k = alloc1 t (λ b. allocate t τs {Kt = λ E. Kt ((τ, b) ∷ E)} (λ bs. record {
     prf =
-      via 𝓤 (⋆ 𝓤 H A (‵ (froom τ b 0) ∷ (cells 𝓤 τs bs [] ++ (‵ (fdies τ b) ∷ Γ)))) (to-front 𝓤 H A W (‵ (froom τ b 0)) (cells 𝓤 τs bs []) (‵ (fdies τ b) ∷ Γ))
-      (via 𝓤 (sep 𝓤 (H .room τ b 0) (⋆ 𝓤 H A (cells 𝓤 τs bs [] ++ (‵ (fdies τ b) ∷ Γ)))) (pop 𝓤 H A (‵ (froom τ b 0)) (cells 𝓤 τs bs [] ++ (‵ (fdies τ b) ∷ Γ)))
-      (via 𝓤 (sep 𝓤 (H .room τ b 0) (⋆ 𝓤 H A (‵ (fdies τ b) ∷ (cells 𝓤 τs bs [] ++ Γ)))) (monoR 𝓤 (H .room τ b 0) (to-front 𝓤 H A W (‵ (fdies τ b)) (cells 𝓤 τs bs []) Γ)) (k (b, bs) .prf)));
+        via 𝓤 (⋆ 𝓤 H A (‵ (froom τ b 0) ∷ (cells 𝓤 τs bs [] ++ (‵ (fdies τ b) ∷ Γ)))) (to-front 𝓤 H A W (‵ (froom τ b 0)) (cells 𝓤 τs bs []) (‵ (fdies τ b) ∷ Γ))
+        (via 𝓤 (sep 𝓤 (H .room τ b 0) (⋆ 𝓤 H A (cells 𝓤 τs bs [] ++ (‵ (fdies τ b) ∷ Γ)))) (pop 𝓤 H A (‵ (froom τ b 0)) (cells 𝓤 τs bs [] ++ (‵ (fdies τ b) ∷ Γ)))
+        (via 𝓤 (sep 𝓤 (H .room τ b 0) (⋆ 𝓤 H A (‵ (fdies τ b) ∷ (cells 𝓤 τs bs [] ++ Γ)))) (monoR 𝓤 (H .room τ b 0) (to-front 𝓤 H A W (‵ (fdies τ b)) (cells 𝓤 τs bs []) Γ)) (k (b, bs) .prf)));
   }))
 
   -- the locals hold cs

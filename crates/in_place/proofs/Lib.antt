@@ -4,6 +4,7 @@ pub mod Elements
 pub mod Frame
 pub mod InPlace
 pub mod Locals
+pub mod Looked
 pub mod Outcome
 pub mod Panel
 pub mod Params
@@ -11,4 +12,5 @@ pub mod Passing
 pub mod RecordFields
 pub mod Steps
 pub mod Taken
+pub mod Tested
 pub mod Walk

@@ -13,7 +13,7 @@ use mir.Raw.{raw as rawTy}
 use mir.Val.{Val, Vals, vint, vstruct, ofList, hasTy, WT}
 use mir.Fields.{getV, setV}
 use base.Stored.{Gv}
-use base.Fml.{Fml, Lft, Share, GName, fat, fobs, fauth, fbor, fobor, flft}
+use base.Fml.{Fml, Lft, Share, GName, fat, fobs, fauth, fbor, fobor, flft, fshr-bor}
 use prog.Memory.{fieldOf, size}
 use prog.Wp.{Heap, Env}
 use ghost.Atoms.{Atoms}
@@ -23,9 +23,9 @@ use types.Part.{Part, sub, look-in, store-in}
 use types.Run.{Reads, Writes, Walks, fld, stop}
 use denote.Array.{Array, arrayVal}
 use denote.Laws.{Is, shows}
-use denote.Memory.{mem}
+use denote.Memory.{mem, partAt}
 use denote.RattleType.{RattleType}
-use denote.Steps.{opens, closes, owned, facts}
+use denote.Steps.{opens, closes, looks, shuts, owned, facts}
 use denote.Struct.Declared.{shape}
 use denote.Struct.Field.{Field, u32-field}
 use denote.Struct.Laws as LL
@@ -86,10 +86,10 @@ counts-found = refl
 writer-found : fieldOf recordTy 4 ≡ some (writerTy, 268)
 writer-found = refl
 
-readers-found : fieldOf recordTy 5 ≡ some (tyArray readerTy 16, 308)
+pub readers-found : fieldOf recordTy 5 ≡ some (tyArray readerTy 16, 308)
 readers-found = refl
 
-stations-found : fieldOf recordTy 6 ≡ some (tyArray stationTy 32, 628)
+pub stations-found : fieldOf recordTy 6 ≡ some (tyArray stationTy 32, 628)
 stations-found = refl
 
 module _ {M : Type 1} {𝓤 : URA M} {H : Heap 𝓤} {A : Atoms 𝓤} {K : Type 0} {W : Given 𝓤 H A} {Γ : List (Item 𝓤)} {E : Env 𝓤 H} {b o : ℕ} where
@@ -131,27 +131,51 @@ counts-val counts = arrayVal (map (vint w32) (map (u32-field .into) counts))
 unfoldable pub recordAt : Record → ℕ → ℕ → Fml
 recordAt panel b o = fat fullShare (rawTy recordTy) b o (val panel)
 
+-- a share of it
+unfoldable pub sharedAt : Share → Record → ℕ → ℕ → Fml
+sharedAt q panel b o = fat q (rawTy recordTy) b o (val panel)
+
 -- ---- reading a field and storing one, the record being the entry in front
 module _ {M : Type 1} {𝓤 : URA M} {H : Heap 𝓤} {A : Atoms 𝓤} {K : Type 0} {W : Given 𝓤 H A} {Γ : List (Item 𝓤)} where
+  pub m-seen : K → (q : Share) (panel : Record) (b o : ℕ) → Reads K W (‵ (sharedAt q panel b o) ∷ Γ) (tyInt w32) b (o + 0) (vint w32 (panel .m))
+  unfolding sharedAt
+  m-seen t q panel b o = look-in t 0 (sub t 0 {τ = tyInt w32} {d = 0} m-found (behind t recordTy))
+
   pub m-read : K → (panel : Record) (b o : ℕ) → Reads K W (‵ (recordAt panel b o) ∷ Γ) (tyInt w32) b (o + 0) (vint w32 (panel .m))
-  unfolding recordAt
-  m-read t panel b o = look-in t 0 (sub t 0 {τ = tyInt w32} {d = 0} m-found (behind t recordTy))
+  unfolding recordAt sharedAt
+  m-read t panel b o = m-seen t fullShare panel b o
+
+  pub k-seen : K → (q : Share) (panel : Record) (b o : ℕ) → Reads K W (‵ (sharedAt q panel b o) ∷ Γ) (tyInt w32) b (o + 4) (vint w32 (panel .k))
+  unfolding sharedAt
+  k-seen t q panel b o = look-in t 0 (sub t 1 {τ = tyInt w32} {d = 4} k-found (behind t recordTy))
 
   pub k-read : K → (panel : Record) (b o : ℕ) → Reads K W (‵ (recordAt panel b o) ∷ Γ) (tyInt w32) b (o + 4) (vint w32 (panel .k))
-  unfolding recordAt
-  k-read t panel b o = look-in t 0 (sub t 1 {τ = tyInt w32} {d = 4} k-found (behind t recordTy))
+  unfolding recordAt sharedAt
+  k-read t panel b o = k-seen t fullShare panel b o
+
+  pub reach-seen : K → (q : Share) (panel : Record) (b o : ℕ) → Reads K W (‵ (sharedAt q panel b o) ∷ Γ) (tyInt w32) b (o + 8) (vint w32 (panel .reach))
+  unfolding sharedAt
+  reach-seen t q panel b o = look-in t 0 (sub t 2 {τ = tyInt w32} {d = 8} reach-found (behind t recordTy))
 
   pub reach-read : K → (panel : Record) (b o : ℕ) → Reads K W (‵ (recordAt panel b o) ∷ Γ) (tyInt w32) b (o + 8) (vint w32 (panel .reach))
-  unfolding recordAt
-  reach-read t panel b o = look-in t 0 (sub t 2 {τ = tyInt w32} {d = 8} reach-found (behind t recordTy))
+  unfolding recordAt sharedAt
+  reach-read t panel b o = reach-seen t fullShare panel b o
+
+  pub counts-seen : K → (q : Share) (panel : Record) (b o : ℕ) → Reads K W (‵ (sharedAt q panel b o) ∷ Γ) (tyArray (tyInt w32) 64) b (o + 12) (counts-val (panel .counts))
+  unfolding sharedAt
+  counts-seen t q panel b o = look-in t 0 (sub t 3 {τ = tyArray (tyInt w32) 64} {d = 12} counts-found (behind t recordTy))
 
   pub counts-read : K → (panel : Record) (b o : ℕ) → Reads K W (‵ (recordAt panel b o) ∷ Γ) (tyArray (tyInt w32) 64) b (o + 12) (counts-val (panel .counts))
-  unfolding recordAt
-  counts-read t panel b o = look-in t 0 (sub t 3 {τ = tyArray (tyInt w32) 64} {d = 12} counts-found (behind t recordTy))
+  unfolding recordAt sharedAt
+  counts-read t panel b o = counts-seen t fullShare panel b o
+
+  pub writer-seen : K → (q : Share) (panel : Record) (b o : ℕ) → Reads K W (‵ (sharedAt q panel b o) ∷ Γ) writerTy b (o + 268) (writer-val (panel .writer))
+  unfolding sharedAt
+  writer-seen t q panel b o = look-in t 0 (sub t 4 {τ = writerTy} {d = 268} writer-found (behind t recordTy))
 
   pub writer-read : K → (panel : Record) (b o : ℕ) → Reads K W (‵ (recordAt panel b o) ∷ Γ) writerTy b (o + 268) (writer-val (panel .writer))
-  unfolding recordAt
-  writer-read t panel b o = look-in t 0 (sub t 4 {τ = writerTy} {d = 268} writer-found (behind t recordTy))
+  unfolding recordAt sharedAt
+  writer-read t panel b o = writer-seen t fullShare panel b o
 
   pub reach-stored : K → (panel : Record) (b o x : ℕ) → T (hasTy (tyInt w32) (vint w32 x)) × WT (vint w32 x) → Writes K W (‵ (recordAt panel b o) ∷ Γ) (tyInt w32) b (o + 8) (vint w32 x) (‵ (recordAt (withReach panel x) b o) ∷ Γ)
   unfolding recordAt withReach
@@ -164,16 +188,21 @@ module _ {M : Type 1} {𝓤 : URA M} {H : Heap 𝓤} {A : Atoms 𝓤} {K : Type 
 -- ---- an element of field f, an array of n elements of F
 module _ (F : Field) (L : LL.FLaws F) (n f d : ℕ) (τ : Ty) (found : fieldOf recordTy f ≡ some (tyArray τ n, d)) (panel : Record) (xs : List (F .Value)) (at-f : getV (fields-of (val panel)) f ≡ arrayVal (map (L .val) (map (F .into) xs))) (p : Is (Array (F .row) n) (map (F .into) xs) (arrayVal (map (L .val) (map (F .into) xs)) ∷ [])) where
   module _ {M : Type 1} {𝓤 : URA M} {H : Heap 𝓤} {A : Atoms 𝓤} {K : Type 0} {W : Given 𝓤 H A} where
-    element-cell : K → (b o k : ℕ) (none : F .Value) → k < n
-        → Part K W (‵ (fat fullShare (rawTy recordTy) b o (vstruct (fields-of (val panel))))) fullShare τ b (k * size τ + (o + d)) (field-val F L (getD xs k none)) (λ u. ‵ (fat fullShare (rawTy recordTy) b o (vstruct (setV (fields-of (val panel)) f (arrayVal (set (map (field-val F L) xs) k u))))))
-    element-cell t b o k none l = element-of t (field-val F L) xs k none l (number-of F L n xs _ p)
-        (subst (λ (v : Val). Part K W (‵ (fat fullShare (rawTy recordTy) b o (vstruct (fields-of (val panel))))) fullShare (tyArray τ n) b (o + d) v (λ u. ‵ (fat fullShare (rawTy recordTy) b o (vstruct (setV (fields-of (val panel)) f u)))))
+    element-cell : K → (q : Share) (b o k : ℕ) (none : F .Value) → k < n
+        → Part K W (‵ (fat q (rawTy recordTy) b o (vstruct (fields-of (val panel))))) q τ b (k * size τ + (o + d)) (field-val F L (getD xs k none)) (λ u. ‵ (fat q (rawTy recordTy) b o (vstruct (setV (fields-of (val panel)) f (arrayVal (set (map (field-val F L) xs) k u))))))
+    element-cell t q b o k none l = element-of t (field-val F L) xs k none l (number-of F L n xs _ p)
+        (subst (λ (v : Val). Part K W (‵ (fat q (rawTy recordTy) b o (vstruct (fields-of (val panel))))) q (tyArray τ n) b (o + d) v (λ u. ‵ (fat q (rawTy recordTy) b o (vstruct (setV (fields-of (val panel)) f u)))))
         (at-f ∙ ap arrayVal (map-map (L .val) (F .into) xs)) (sub t f {τ = tyArray τ n} {d = d} found (behind t recordTy)))
 
     module _ {Γ : List (Item 𝓤)} where
       element-read : K → (b o k : ℕ) (none : F .Value) → k < n → Reads K W (‵ (recordAt panel b o) ∷ Γ) τ b (k * size τ + (o + d)) (field-val F L (getD xs k none))
       unfolding recordAt
-      element-read t b o k none l = look-in t 0 (element-cell t b o k none l)
+      element-read t b o k none l = look-in t 0 (element-cell t fullShare b o k none l)
+
+      -- the same of a record that is shared
+      pub element-seen : K → (q : Share) (b o k : ℕ) (none : F .Value) → k < n → Reads K W (‵ (sharedAt q panel b o) ∷ Γ) τ b (k * size τ + (o + d)) (field-val F L (getD xs k none))
+      unfolding sharedAt
+      element-seen t q b o k none l = look-in t 0 (element-cell t q b o k none l)
 
       element-stored : K → (b o k : ℕ) (none : F .Value) → k < n → (y : F .Value) (after : Record) → vstruct (setV (fields-of (val panel)) f (arrayVal (map (L .val) (map (F .into) (set xs k y))))) ≡ val after
           → T (hasTy τ (field-val F L y)) × WT (field-val F L y) → Writes K W (‵ (recordAt panel b o) ∷ Γ) τ b (k * size τ + (o + d)) (field-val F L y) (‵ (recordAt after b o) ∷ Γ)
@@ -181,7 +210,7 @@ module _ (F : Field) (L : LL.FLaws F) (n f d : ℕ) (τ : Ty) (found : fieldOf r
       element-stored t b o k none l y after is wt =
           subst (λ (v : Val). Writes K W (‵ (fat fullShare (rawTy recordTy) b o (val panel)) ∷ Γ) τ b (k * size τ + (o + d)) (field-val F L y) (‵ (fat fullShare (rawTy recordTy) b o v) ∷ Γ))
           (ap (λ (us : List Val). vstruct (setV (fields-of (val panel)) f (arrayVal us))) (set-map (field-val F L) xs k y ∙ sym (map-map (L .val) (F .into) (set xs k y))) ∙ is)
-          (store-in t 0 (element-cell t b o k none l) wt)
+          (store-in t 0 (element-cell t fullShare b o k none l) wt)
 
 -- ---- what the fields' relations say
 module _ (panel : Record) (is : Holds panel) where
@@ -212,8 +241,25 @@ module _ (panel : Record) (is : Holds panel) where
   -- a record with a field replaced stands in its relation too
   pub holds-with-reader : (k : ℕ) (y : Reader) → Is (ReaderType.the-field .row) (ReaderType.the-field .into y) (reader-val y ∷ []) → Holds (withReaders panel (set (panel .readers) k y))
   unfolding withReaders
-  holds-with-reader k y is-y = LL.owes RecordType.the-type RecordLaws.the-laws (withReaders panel (set (panel .readers) k y)) ((refl, m-fits), ((refl, k-fits), ((refl, reach-fits), (counts-hold, (writer-holds, (
-      is-replaced ReaderType.the-field ReaderLaws.the-field-laws 16 (panel .readers) _ readers-hold k y is-y, (stations-hold, tt)))))))
+  holds-with-reader k y is-y = LL.owes RecordType.the-type RecordLaws.the-laws (withReaders panel (set (panel .readers) k y)) (
+    (refl, m-fits),
+    (
+      (refl, k-fits),
+      (
+        (refl, reach-fits),
+        (
+          counts-hold,
+          (
+            writer-holds,
+            (
+              is-replaced ReaderType.the-field ReaderLaws.the-field-laws 16 (panel .readers) _ readers-hold k y is-y,
+              (stations-hold, tt),
+            ),
+          ),
+        ),
+      ),
+    ),
+  )
 
   module _ {M : Type 1} {𝓤 : URA M} {H : Heap 𝓤} {A : Atoms 𝓤} {K : Type 0} {W : Given 𝓤 H A} {Γ : List (Item 𝓤)} where
     pub reader-read : K → (b o k : ℕ) → k < 16 → Reads K W (‵ (recordAt panel b o) ∷ Γ) readerTy b (k * 20 + (o + 308)) (reader-val (getD (panel .readers) k idleReader))
@@ -225,6 +271,15 @@ module _ (panel : Record) (is : Holds panel) where
     reader-stored t b o k l y wt = element-stored ReaderType.the-field ReaderLaws.the-field-laws 16 5 308 readerTy readers-found panel (panel .readers) refl readers-hold t b o k idleReader l y (withReaders panel (set (panel .readers) k y)) refl wt
 
 module _ {M : Type 1} (𝓤 : URA M) (H : Heap 𝓤) (A : Atoms 𝓤) (W : Given 𝓤 H A) where
+  pub counts-typed : (panel : Record) → Holds panel → T (hasTy (tyArray (tyInt w32) 64) (counts-val (panel .counts))) × WT (counts-val (panel .counts))
+  counts-typed panel is = LL.array-laws u32-field LL.u32-laws 64 .lawful 𝓤 H A W .typed (map (u32-field .into) (panel .counts)) (counts-val (panel .counts) ∷ []) (counts-hold panel is) .0
+
+  pub writer-typed : (y : Writer) → Is (WriterType.the-field .row) (WriterType.the-field .into y) (writer-val y ∷ []) → T (hasTy writerTy (writer-val y)) × WT (writer-val y)
+  writer-typed y is = WriterLaws.the-field-laws .lawful 𝓤 H A W .typed (WriterType.the-field .into y) (writer-val y ∷ []) is .0
+
+  pub station-typed : (y : Station) → Is (StationType.the-field .row) (StationType.the-field .into y) (station-val y ∷ []) → T (hasTy stationTy (station-val y)) × WT (station-val y)
+  station-typed y is = StationLaws.the-field-laws .lawful 𝓤 H A W .typed (StationType.the-field .into y) (station-val y ∷ []) is .0
+
   pub reader-typed : (y : Reader) → Is (ReaderType.the-field .row) (ReaderType.the-field .into y) (reader-val y ∷ []) → T (hasTy readerTy (reader-val y)) × WT (reader-val y)
   reader-typed y is = ReaderLaws.the-field-laws .lawful 𝓤 H A W .typed (ReaderType.the-field .into y) (reader-val y ∷ []) is .0
 
@@ -240,3 +295,15 @@ module _ {M : Type 1} {𝓤 : URA M} {H : Heap 𝓤} {A : Atoms 𝓤} {K : Type 
       (‵ (recordAt panel b o) ∷ ‵ (fobor κ q (Body (mem row) b o γ)) ∷ ‵ (fobs γ u) ∷ ‵ (fauth γ v) ∷ Γ) G
   unfolding recordAt
   closes-panel t z panel b o is = step (λ s. owned t row (Is row) (LL.makes RecordType.the-type RecordLaws.the-plain 𝓤 H A) panel (val panel ∷ []) is $ move t (1 ∷ 0 ∷ []) $ closes t z row panel (val panel ∷ []) b o $ s)
+
+-- ---- a shared reference to the record is looked into and shut
+module _ {M : Type 1} {𝓤 : URA M} {H : Heap 𝓤} {A : Atoms 𝓤} {K : Type 0} {W : Given 𝓤 H A} {Γ : List (Item 𝓤)} {G : Goal 𝓤 H} {κ : Lft} {q : Share} where
+  pub looks-panel : K → Soaks G → (panel : Record) (b o : ℕ) → ((q′ : Share) → Holds panel → Seq K W (‵ (sharedAt q′ panel b o) ∷ ‵ (fobor κ q (partAt row q′ panel b o)) ∷ ‵ (fshr-bor κ (λ s. partAt row s panel b o)) ∷ Γ) G)
+      → Seq K W (‵ (fshr-bor κ (λ s. partAt row s panel b o)) ∷ ‵ (flft κ q) ∷ Γ) G
+  unfolding sharedAt
+  looks-panel t z panel b o k = looks t z row (Is row) (shows 𝓤 H A row) (LL.vals RecordType.the-type RecordLaws.the-laws) (LL.tells RecordType.the-type RecordLaws.the-laws) (LL.copy RecordType.the-type RecordLaws.the-copy 𝓤 H A W) {κ = κ} {q = q} panel b o (λ q′ vs.
+      spelt-out t row (Is row) (shows 𝓤 H A row) (LL.vals RecordType.the-type RecordLaws.the-laws) (LL.tells RecordType.the-type RecordLaws.the-laws) q′ panel vs b o $ move t (1 ∷ []) $ facts t row (Is row) (shows 𝓤 H A row) panel (val panel ∷ []) (λ is. k q′ is))
+
+  pub shuts-panel : K → Soaks G → (q′ : Share) (panel : Record) (b o : ℕ) → Holds panel → Step K W (‵ (flft κ q) ∷ Γ) G (‵ (sharedAt q′ panel b o) ∷ ‵ (fobor κ q (partAt row q′ panel b o)) ∷ Γ) G
+  unfolding sharedAt
+  shuts-panel t z q′ panel b o is = step (λ s. owned t row (Is row) (LL.makes RecordType.the-type RecordLaws.the-plain 𝓤 H A) panel (val panel ∷ []) is $ move t (1 ∷ 0 ∷ []) $ shuts t z row q′ panel (val panel ∷ []) b o $ s)

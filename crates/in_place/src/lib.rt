@@ -2,26 +2,21 @@
 // out, calls the function that takes and gives it by value, and puts the new record back.
 ghost use mathlib.Core.Path.{_≡_};
 ghost use Rattle.answers.specs.Answers.{paperStart, paperEntry, paperStep, outcome};
-ghost use Rattle.record_ranges.specs.Ranges.{inRange};
 ghost use Rattle.reader_step.specs.Reader.{stepReader};
 ghost use Rattle.reader_starts.specs.Starts.{startLookup, startWalk};
 ghost use Rattle.writer.specs.Starts.{startPut, startChange, startRemoval};
 ghost use Rattle.writer.specs.Step.{stepWriter};
 ghost use Rattle.command.specs.Command.{startCommand};
+
+mod ranges;
+
+use crate::ranges::fits_at;
 use answers::EntryAnswer;
 use answers::StartAnswer;
 use answers::StepAnswer;
 use reader_step::step_work;
 use record::Record;
 use record::parts::reader_place;
-use record_ranges::is_in_range;
-
-// Whether every field is in range, for a number of slots lent.
-fn fits_at(panel: &Record, lent: usize) -> bool
-    ensures { λ r. ⌜ r ≡ inRange lent (now (panel .entry)) ⌝ }
-{
-    is_in_range(*panel, lent)
-}
 
 // Starts a reader's lookup of a point.
 pub fn start_lookup(panel: &mut Record, slots: &[u64], reader: u32, point: u32) -> StartAnswer

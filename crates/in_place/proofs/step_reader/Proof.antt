@@ -50,10 +50,10 @@ use Rattle.record.proofs.Record.Laws as Record′
 use Rattle.record.proofs.Reader as Reader
 use Rattle.record.proofs.Reader.Laws as Reader′
 use Rattle.reader_step.proofs.SteppedReader as Stepped
-use Rattle.in_place.proofs.fits_at as fits
-use Rattle.in_place.proofs.fits_at.Met as fits-thm
-use Rattle.in_place.proofs.fits_at.Symbol as fits-def
-use Rattle.in_place.proofs.fits_at.Symbol.{name as #fits}
+use Rattle.in_place.proofs.ranges.fits_at as fits
+use Rattle.in_place.proofs.ranges.fits_at.Met as fits-thm
+use Rattle.in_place.proofs.ranges.fits_at.Symbol as fits-def
+use Rattle.in_place.proofs.ranges.fits_at.Symbol.{name as #fits}
 use Rattle.record.proofs.parts.reader_place as place
 use Rattle.record.proofs.parts.reader_place.Met as place-thm
 use Rattle.record.proofs.parts.reader_place.Symbol as place-def

@@ -1,0 +1,45 @@
+// The ranges of a record behind a reference: its arrays of readers and stations are tested where they are.
+ghost use mathlib.Core.Path.{_≡_};
+ghost use Rattle.record_ranges.specs.Ranges.{readersInRange, stationsInRange, inRange};
+use record::Record;
+use record_ranges::are_parts_in_range;
+use record_ranges::reader_joined;
+use record_ranges::station_joined;
+
+fn are_readers_in_range(panel: &Record, m: u32, k: u32) -> bool
+    ensures { λ r. ⌜ r ≡ readersInRange m k (now (panel .entry) .readers) ⌝ }
+{
+    let mut fit = true;
+    let mut i = 0;
+    while i < 16 {
+        fit = reader_joined(fit, panel.readers[i], m, k);
+        i += 1;
+    }
+    fit
+}
+
+fn are_stations_in_range(panel: &Record) -> bool
+    ensures { λ r. ⌜ r ≡ stationsInRange (now (panel .entry) .stations) ⌝ }
+{
+    let mut fit = true;
+    let mut i = 0;
+    while i < 32 {
+        fit = station_joined(fit, panel.stations[i]);
+        i += 1;
+    }
+    fit
+}
+
+// Whether every field is in range, for a number of slots lent.
+pub(crate) fn fits_at(panel: &Record, lent: usize) -> bool
+    ensures { λ r. ⌜ r ≡ inRange lent (now (panel .entry)) ⌝ }
+{
+    let m = panel.m;
+    let k = panel.k;
+    let reach = panel.reach;
+    let counts = panel.counts;
+    let writer = panel.writer;
+    let readers = are_readers_in_range(panel, m, k);
+    let stations = are_stations_in_range(panel);
+    are_parts_in_range(lent, m, k, reach, counts, writer, readers, stations)
+}

@@ -26,8 +26,8 @@ use Rattle.search.specs.declared.SearchAnswer.the-variants.{Found as SearchAnsw
 use Rattle.search.specs.Search.{searchAdvance}
 use Rattle.search.proofs.SearchLaws.{search-inside, searchedLeft, searchedInRange, answerInRange, OneStep, search-step}
 use Rattle.effects.specs.Memory.{storeWord}
-use Rattle.effects.specs.Effects.{goesOn, ends}
-use Rattle.effects.proofs.EffectLaws.{slotNamed, updateInRange, reachAfter, reachStored, changeLeft, writerLeft, OneEffect}
+use Rattle.effects.specs.Effects.{goesOn, ends, reachAfter}
+use Rattle.effects.proofs.EffectLaws.{slotNamed, updateInRange, reachStored, changeLeft, writerLeft, OneEffect}
 use Rattle.change.specs.Change.{newValue, changeStageAccess, changeAccess, alterationEnds, commandEnds, changeAt, changeAnswered, changeSearched, changeStores, changeStageAdvance, changeAdvance}
 
 either-right : (a b : Bool) → b ≡ true → either a b ≡ true

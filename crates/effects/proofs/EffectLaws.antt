@@ -1,13 +1,15 @@
 -- Laws of what a step of the writer comes to: an update in range keeps a record in range and leaves the rest of it; and how many steps an operation has
 -- left, at most, by which the bounds 2k + 2, k + 2 and k + 3 are shown.
 use Prim.Native.Nat.{ℕ, _+_, _*_, _-_, _≤_, min}
-use mathlib.Core.Path.{_≡_, refl, sym}
+use mathlib.Core.Path.{_≡_, refl, sym, ap, _∙_}
 use mathlib.Core.Bool.{Bool, true, false, cond, not, false≢true}
 use native.Mathlib.Omega.{arith}
 use borrow.Author.Tests.{leb-true, ltb-true, ltb-false}
 use lib.Dec.{ltb, leb}
+use lib.ListN.{getD, set}
+use lib.Seq.{set-getD}
 use Rattle.conditions.specs.Conditions.{within}
-use Rattle.conditions.proofs.ConditionLaws.{within-high}
+use Rattle.conditions.proofs.ConditionLaws.{within-low, within-high}
 use Rattle.record.specs.declared.Record.{Record}
 use Rattle.record.specs.declared.Search.{Search}
 use Rattle.record.specs.declared.Search.the-variants.{Unread, Probing}
@@ -19,7 +21,8 @@ use Rattle.record.specs.declared.RemovalStage.{RemovalStage}
 use Rattle.record.specs.declared.RemovalStage.the-variants.{Searching as RemovalStage·Searching, Found as RemovalStage·Found, Lowering}
 use Rattle.record.specs.declared.WriterWork.{WriterWork}
 use Rattle.record.specs.declared.WriterWork.the-variants.{Idle, Putting, Changing, Removing}
-use Rattle.record.specs.Parts.{withReach, withCount, withStation, countOf, withCounts, withStations}
+use Rattle.record.specs.Parts.{unheardStation, numbered, withNumbered, numberedPlace, withReach, withCount, withStation, countOf, withCounts, withStations}
+use Rattle.record.proofs.Numbered.{numbered-in-place, replaced-in-place}
 use Rattle.record_ranges.specs.Ranges.{stationInRange, inRange}
 use Rattle.work_ranges.specs.WorkRanges.{writerInRange}
 use Rattle.record_ranges.proofs.Laws.{with-reach-in-range, with-count-in-range, with-station-in-range, count-in-range}
@@ -29,15 +32,15 @@ use Rattle.effects.specs.declared.memory.WriterAccess.{WriterAccess}
 use Rattle.effects.specs.declared.memory.WriterAccess.the-variants.{Read, StoreReach, StoreSlot}
 use Rattle.effects.specs.declared.update.Update.{Update}
 use Rattle.effects.specs.declared.update.Update.the-variants.{Nothing, Reach, Counted, Uncounted, Answered}
-use Rattle.effects.specs.Counts.{counted, uncounted}
-use Rattle.effects.specs.Effects.{WriterEffect, updated}
+use Rattle.effects.specs.Counts.{oneMore, oneLess, counted, uncounted}
+use Rattle.effects.specs.Effects.{WriterEffect, updated, reachAfter, countPlace, countAfter, stationAfter}
 use Rattle.record.specs.Idle.{isWriterIdle}
 
 -- what replaces a part of the record is in range
 unfoldable pub updateInRange : ℕ → Update → Bool
 updateInRange k Nothing = true
 updateInRange k (Reach reach) = leb reach k
-updateInRange k (Counted index) = true
+updateInRange k (Counted index) = within 1 index k
 updateInRange k (Uncounted index) = within 1 index k
 updateInRange k (Answered command) = stationInRange (command .last)
 
@@ -51,14 +54,6 @@ updated-in-range lent panel (Uncounted index) h e =
     with-count-in-range lent panel h index (countOf panel index - 1)
     (omega (arith, count-in-range lent panel h index (within-high 1 index (panel .k) e)))
 updated-in-range lent panel (Answered command) h e = with-station-in-range lent panel h (command .station) (command .last) e
-
--- the reach after an update
-unfoldable pub reachAfter : ℕ → Update → ℕ
-reachAfter reach Nothing = reach
-reachAfter reach (Reach new) = new
-reachAfter reach (Counted index) = reach
-reachAfter reach (Uncounted index) = reach
-reachAfter reach (Answered command) = reach
 
 -- the reach after an access
 unfoldable pub reachStored : ℕ → WriterAccess → ℕ
@@ -86,6 +81,48 @@ update-leaves panel (Reach reach) = record { m-stays = refl; k-stays = refl; rea
 update-leaves panel (Counted index) = record { m-stays = refl; k-stays = refl; readers-stay = refl; reach-after = refl }
 update-leaves panel (Uncounted index) = record { m-stays = refl; k-stays = refl; readers-stay = refl; reach-after = refl }
 update-leaves panel (Answered command) = record { m-stays = refl; k-stays = refl; readers-stay = refl; reach-after = refl }
+
+-- an answer to a station's command is stored at this place
+abbrev pub AnswersAt : ℕ → Update → Type 0
+AnswersAt place Nothing = Unit {0}
+AnswersAt place (Reach reach) = Unit {0}
+AnswersAt place (Counted index) = Unit {0}
+AnswersAt place (Uncounted index) = Unit {0}
+AnswersAt place (Answered command) = (within 1 (command .station) 32 ≡ true) × (place ≡ numberedPlace 32 (command .station))
+
+-- an update stores the reach, a count and a station's last command, each at most with another value than before
+module _ (panel : Record) (place : ℕ) (high : panel .k ≤ 64) where
+  abbrev inParts : Update → Record
+  inParts update =
+      withStations
+      (withCounts (withReach panel (reachAfter (panel .reach) update)) (set (panel .counts) (countPlace update) (countAfter (panel .m) update (getD (panel .counts) (countPlace update) 0))))
+      (set (panel .stations) place (stationAfter update (getD (panel .stations) place unheardStation)))
+
+  same-counts : (at : ℕ) → set (panel .counts) at (getD (panel .counts) at 0) ≡ panel .counts
+  same-counts at = set-getD (panel .counts) at 0
+
+  same-stations : set (panel .stations) place (getD (panel .stations) place unheardStation) ≡ panel .stations
+  same-stations = set-getD (panel .stations) place unheardStation
+
+  -- the count of an index is changed at its place
+  recounted : (index : ℕ) (after : ℕ → ℕ) → within 1 index (panel .k) ≡ true → withNumbered (panel .counts) index (after (numbered (panel .counts) index 0)) ≡ set (panel .counts) (numberedPlace 64 index) (after (getD (panel .counts) (numberedPlace 64 index) 0))
+  recounted index after h =
+      let low = within-low 1 index (panel .k) h in
+      let under : index ≤ 64 = omega (arith, within-high 1 index (panel .k) h) in
+      replaced-in-place (panel .counts) 64 index low under (after (numbered (panel .counts) index 0))
+      ∙ ap (λ (count : ℕ). set (panel .counts) (numberedPlace 64 index) (after count)) (numbered-in-place (panel .counts) 64 index low under 0)
+
+  pub updated-in-parts : (update : Update) → updateInRange (panel .k) update ≡ true → AnswersAt place update → updated panel update ≡ inParts update
+  unfolding updated updateInRange counted uncounted reachAfter countPlace countAfter stationAfter withReach withCount withCounts withStation withStations countOf
+  updated-in-parts Nothing h at = sym (λ j. withStations (withCounts panel (same-counts 0 j)) (same-stations j))
+  updated-in-parts (Reach reach) h at = sym (λ j. withStations (withCounts (withReach panel reach) (same-counts 0 j)) (same-stations j))
+  updated-in-parts (Counted index) h at = λ j. withStations (withCounts panel (recounted index (oneMore (panel .m)) h j)) (sym same-stations j)
+  updated-in-parts (Uncounted index) h at = λ j. withStations (withCounts panel (recounted index oneLess h j)) (sym same-stations j)
+  updated-in-parts (Answered command) h at =
+      let stored =
+      replaced-in-place (panel .stations) 32 (command .station) (within-low 1 (command .station) 32 (at .0)) (within-high 1 (command .station) 32 (at .0)) (command .last)
+      ∙ ap (λ (p : ℕ). set (panel .stations) p (command .last)) (sym (at .1)) in
+      λ j. withStations (withCounts panel (sym (same-counts 0) j)) (stored j)
 
 -- a step more where an index exceeds the reach: the one that stores the reach
 unfoldable pub raising : ℕ → ℕ → ℕ

@@ -1,27 +1,32 @@
 -- Document 01, "What the panel holds": the counts, "for each function index 1 to k, how many stored points use it (0 to m)".
 use Prim.Native.Nat.{ℕ, zero, suc, _+_, _-_, min}
 use mathlib.Core.Bool.{cond}
+use mathlib.Core.List.{List}
 use lib.Dec.{eqb}
 use Rattle.record.specs.declared.Record.{Record}
-use Rattle.record.specs.Parts.{countOf, withCount}
+use Rattle.record.specs.Parts.{countIn, countOf, withCount}
 
--- "a count that would leave its range stays at its end"
-abbrev pub oneMore : Record → ℕ → ℕ
-oneMore panel index = min (countOf panel index + 1) (panel .m)
+-- a count with one point more, not above m: "a count that would leave its range stays at its end"
+abbrev pub oneMore : ℕ → ℕ → ℕ
+oneMore m count = min (count + 1) m
+
+-- a count with one point less; a count of 0 stays
+abbrev pub oneLess : ℕ → ℕ
+oneLess count = count - 1
 
 -- "count index i"
 unfoldable pub counted : Record → ℕ → Record
-counted panel index = withCount panel index (oneMore panel index)
+counted panel index = withCount panel index (oneMore (panel .m) (countOf panel index))
 
--- "uncount its index i"; a count of 0 stays
+-- "uncount its index i"
 unfoldable pub uncounted : Record → ℕ → Record
-uncounted panel index = withCount panel index (countOf panel index - 1)
+uncounted panel index = withCount panel index (oneLess (countOf panel index))
 
 -- the largest index of 1 to n that is counted, or 0
-unfoldable pub largestUpTo : Record → ℕ → ℕ
-largestUpTo panel zero = 0
-largestUpTo panel (suc i) = cond (eqb (countOf panel (suc i)) 0) (largestUpTo panel i) (suc i)
+unfoldable pub largestUpTo : List ℕ → ℕ → ℕ
+largestUpTo counts zero = 0
+largestUpTo counts (suc i) = cond (eqb (countIn counts (suc i)) 0) (largestUpTo counts i) (suc i)
 
--- "the largest index still counted, or 0"
-unfoldable pub largestCounted : Record → ℕ
-largestCounted panel = largestUpTo panel (panel .k)
+-- "the largest index still counted, or 0", of 1 to k
+unfoldable pub largestCounted : ℕ → List ℕ → ℕ
+largestCounted k counts = largestUpTo counts k

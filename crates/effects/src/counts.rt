@@ -1,47 +1,53 @@
 // The counts of indices. A count stays in its range: on a record that no history leads to, one that
 // would leave it stays at its end.
 ghost use mathlib.Core.Path.{_≡_};
-ghost use Rattle.effects.specs.Counts.{oneMore, counted, uncounted, largestCounted};
+ghost use Rattle.effects.specs.Counts.{oneMore, oneLess, counted, uncounted, largestCounted};
 use record::Record;
+use record::parts::count_in;
 use record::parts::count_of;
 use record::parts::with_count;
 
-// The index's count with one point more.
-pub fn one_more(panel: Record, index: u32) -> u32
-    ensures { λ r. ⌜ r ≡ oneMore panel index ⌝ }
+// A count with one point more.
+pub fn one_more(m: u32, count: u32) -> u32
+    ensures { λ r. ⌜ r ≡ oneMore m count ⌝ }
 {
-    let count = count_of(panel, index);
-    if count < panel.m {
+    if count < m {
         return count + 1;
     }
-    panel.m
+    m
+}
+
+// A count with one point less.
+pub fn one_less(count: u32) -> u32
+    ensures { λ r. ⌜ r ≡ oneLess count ⌝ }
+{
+    if count == 0 {
+        return 0;
+    }
+    count - 1
 }
 
 // One point more uses the index.
 pub(crate) fn with_counted(panel: Record, index: u32) -> Record
     ensures { λ r. ⌜ r ≡ counted panel index ⌝ }
 {
-    with_count(panel, index, one_more(panel, index))
+    with_count(panel, index, one_more(panel.m, count_of(panel, index)))
 }
 
 // One point less uses the index.
-pub fn with_uncounted(panel: Record, index: u32) -> Record
+pub(crate) fn with_uncounted(panel: Record, index: u32) -> Record
     ensures { λ r. ⌜ r ≡ uncounted panel index ⌝ }
 {
-    let count = count_of(panel, index);
-    if count == 0 {
-        return with_count(panel, index, 0);
-    }
-    with_count(panel, index, count - 1)
+    with_count(panel, index, one_less(count_of(panel, index)))
 }
 
 // The largest index of 1 to k that is counted, or 0.
-pub fn largest_counted(panel: Record) -> u32
-    ensures { λ r. ⌜ r ≡ largestCounted panel ⌝ }
+pub fn largest_counted(k: u32, counts: [u32; 64]) -> u32
+    ensures { λ r. ⌜ r ≡ largestCounted k counts ⌝ }
 {
-    let mut index = panel.k;
+    let mut index = k;
     while 0 < index {
-        if count_of(panel, index) != 0 {
+        if count_in(counts, index) != 0 {
             return index;
         }
         index -= 1;

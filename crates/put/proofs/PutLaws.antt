@@ -27,8 +27,8 @@ use Rattle.search.proofs.SearchLaws.{slotRead, search-inside, searchLeft, searc
 use Rattle.effects.specs.declared.memory.WriterAccess.the-variants.{StoreReach}
 use Rattle.effects.specs.Memory.{storeWord}
 use Rattle.effects.specs.declared.update.Update.the-variants.{Nothing, Reach, Counted}
-use Rattle.effects.specs.Effects.{WriterEffect, goesOn, ends}
-use Rattle.effects.proofs.EffectLaws.{slotNamed, updateInRange, reachAfter, reachStored, raising, raising-low, raising-high, raising-grows, putSearchLeft, putLeft, writerLeft, OneEffect}
+use Rattle.effects.specs.Effects.{WriterEffect, goesOn, ends, reachAfter}
+use Rattle.effects.proofs.EffectLaws.{slotNamed, updateInRange, reachStored, raising, raising-low, raising-high, raising-grows, putSearchLeft, putLeft, writerLeft, OneEffect}
 use Rattle.put.specs.Put.{exceeds, putStageAccess, putAccess, putAt, putAnswered, putSearched, putScanned, putTakes, putStageAdvance, putAdvance}
 
 search-left : (k reach : ℕ) (search : Search) → putSearchLeft k reach search ≤ searchLeft k search + (k + 1 + raising reach k)
@@ -80,7 +80,7 @@ module _ (k reach : ℕ) (put : Put) (low : 1 ≤ k) (valid : validPoint (put .p
             ended = refl;
             less = omega (arith, ap (putLeft k index) e, raising-low index index (omega arith));
           }
-      go false f = record { work-fits = refl; update-fits = refl; ended = refl; less = omega arith }
+      go false f = record { work-fits = refl; update-fits = h; ended = refl; less = omega arith }
 
   at-any-stage : (slot word : ℕ) (stage : PutStage) → reach ≤ k → put .stage ≡ stage → putStageInRange k stage ≡ true → OneEffect k reach (putLeft k reach stage) (putStageAdvance k reach slot put stage word)
   unfolding putStageAdvance putStageInRange putLeft putSearchLeft searchAdvance ends writerInRange updateInRange reachAfter writerLeft

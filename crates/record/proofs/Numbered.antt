@@ -1,12 +1,15 @@
 -- Laws of elements counted from 1: the number n stands at n − 1; with 0, or past the end, none is read and none replaced.
 use Prim.Native.Nat.{ℕ, zero, suc, _-_, _≤_, _<_}
 use mathlib.Core.Path.{_≡_, refl, ap, sym, _∙_}
+use mathlib.Core.Bool.{Bool, true, false, cond}
 use mathlib.Core.List.{List, map}
 use mathlib.Core.Logic.{_≢_}
 use native.Mathlib.Omega.{arith}
+use borrow.Author.Tests.{ltb-true, ltb-false}
+use lib.Dec.{ltb}
 use lib.ListN.{length, length-map, length-set, getD, set, List·getD-eq-default}
 use lib.Seq.{set-out, getD-set-same, getD-set-other}
-use Rattle.record.specs.Parts.{numbered, withNumbered}
+use Rattle.record.specs.Parts.{numbered, withNumbered, numberedPlace}
 
 module _ {A : Type 0} (list : List A) where
   pub numbered-at : (n : ℕ) (none : A) → 1 ≤ n → numbered list n none ≡ getD list (n - 1) none
@@ -69,3 +72,45 @@ module _ {A : Type 0} (list : List A) (n : ℕ) (new : A) where
 -- a list is as long as another made of it element by element: the kit tells an array field's length by the latter
 pub mapped-length : {A B : Type 0} (l : List A) (f : A → B) (n : ℕ) → length (map f l) ≡ n → length l ≡ n
 mapped-length l f n h = sym (length-map l f) ∙ h
+
+-- the place of a number
+pub place-at : (last n : ℕ) → 1 ≤ n → n ≤ last → numberedPlace last n ≡ n - 1
+unfolding numberedPlace
+place-at last zero low high = absurd (omega arith)
+place-at last (suc i) low high = go (ltb i last) refl
+  where
+    go : (b : Bool) → ltb i last ≡ b → cond b i 0 ≡ suc i - 1
+    go true e = omega arith
+    go false e = absurd (omega (arith, ltb-false i last e))
+
+pub place-zero : (last n : ℕ) → n ≡ 0 → numberedPlace last n ≡ 0
+unfolding numberedPlace
+place-zero last zero h = refl
+place-zero last (suc i) h = absurd (omega arith)
+
+pub place-past : (last n : ℕ) → last < n → numberedPlace last n ≡ 0
+unfolding numberedPlace
+place-past last zero h = refl
+place-past last (suc i) h = go (ltb i last) refl
+  where
+    go : (b : Bool) → ltb i last ≡ b → cond {A = ℕ} b i 0 ≡ 0
+    go true e = absurd (omega (arith, ltb-true i last e))
+    go false e = refl
+
+-- it is a place of a list of that length
+pub place-below : (last n : ℕ) → 1 ≤ last → numberedPlace last n < last
+unfolding numberedPlace
+place-below last zero some = some
+place-below last (suc i) some = go (ltb i last) refl
+  where
+    go : (b : Bool) → ltb i last ≡ b → cond b i 0 < last
+    go true e = ltb-true i last e
+    go false e = some
+
+-- the element of a number that there is, read and replaced at its place
+module _ {A : Type 0} (list : List A) (last n : ℕ) (low : 1 ≤ n) (high : n ≤ last) where
+  pub numbered-in-place : (none : A) → numbered list n none ≡ getD list (numberedPlace last n) none
+  numbered-in-place none = numbered-at list n none low ∙ ap (λ (i : ℕ). getD list i none) (sym (place-at last n low high))
+
+  pub replaced-in-place : (new : A) → withNumbered list n new ≡ set list (numberedPlace last n) new
+  replaced-in-place new = replaced-at list n new low ∙ ap (λ (i : ℕ). set list i new) (sym (place-at last n low high))

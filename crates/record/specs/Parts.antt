@@ -130,9 +130,18 @@ unfoldable pub withNumbered : {A : Type 0} → List A → ℕ → A → List A
 withNumbered list zero new = list
 withNumbered list (suc i) new = set list i new
 
+-- the place, counted from 0, of the element of that number, counted from 1 to last; 0 where there is none
+unfoldable pub numberedPlace : ℕ → ℕ → ℕ
+numberedPlace last zero = 0
+numberedPlace last (suc i) = cond (ltb i last) i 0
+
+-- how many stored points use the index, by a list of the counts
+abbrev pub countIn : List ℕ → ℕ → ℕ
+countIn counts index = numbered counts index 0
+
 -- "for each function index 1 to k, how many stored points use it"
 unfoldable pub countOf : Record → ℕ → ℕ
-countOf panel index = numbered (panel .counts) index 0
+countOf panel index = countIn (panel .counts) index
 
 -- the record with that index's count replaced
 unfoldable pub withCount : Record → ℕ → ℕ → Record

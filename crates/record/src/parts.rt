@@ -1,7 +1,7 @@
 // Records made, and a part of one read or replaced. A part of an array is read from a copy of that array,
 // since the compiler would copy the whole record for it.
 ghost use mathlib.Core.Path.{_≡_};
-ghost use Rattle.record.specs.Parts.{unheardStation, freshRecord, workOf, withWork, readerPlace, withWriter, withReach, countOf, withCount, stationOf, withStation};
+ghost use Rattle.record.specs.Parts.{unheardStation, freshRecord, workOf, withWork, readerPlace, withWriter, withReach, numberedPlace, countIn, countOf, withCount, stationOf, withStation};
 use crate::CommandAnswer;
 use crate::Reader;
 use crate::ReaderWork;
@@ -98,9 +98,9 @@ pub fn with_reach(panel: Record, reach: u32) -> Record
     next
 }
 
-// How many stored points use an index, 1 to 64; of another index none do.
-pub fn count_of(panel: Record, index: u32) -> u32
-    ensures { λ r. ⌜ r ≡ countOf panel index ⌝ }
+// How many stored points use an index, 1 to 64, by the counts; of another index none do.
+pub fn count_in(counts: [u32; 64], index: u32) -> u32
+    ensures { λ r. ⌜ r ≡ countIn counts index ⌝ }
 {
     if index == 0 {
         return 0;
@@ -108,8 +108,15 @@ pub fn count_of(panel: Record, index: u32) -> u32
     if 64 < index {
         return 0;
     }
-    let counts = panel.counts;
     counts[(index - 1) as usize]
+}
+
+// The same by the record.
+pub fn count_of(panel: Record, index: u32) -> u32
+    ensures { λ r. ⌜ r ≡ countOf panel index ⌝ }
+{
+    let counts = panel.counts;
+    count_in(counts, index)
 }
 
 // The record with an index's count replaced; with an index outside 1 to 64 the record as it is.
@@ -154,4 +161,17 @@ pub fn with_station(panel: Record, station: u32, last: Station) -> Record
     let mut next = panel;
     next.stations[(station - 1) as usize] = last;
     next
+}
+
+// The place of the element of that number, counted from 1 to last; 0 where there is none.
+pub fn numbered_place(number: u32, last: u32) -> usize
+    ensures { λ r. ⌜ r ≡ numberedPlace last number ⌝ }
+{
+    if number == 0 {
+        return 0;
+    }
+    if last < number {
+        return 0;
+    }
+    (number - 1) as usize
 }

@@ -1,15 +1,16 @@
 -- A removal's step, where the table agrees with a plain list: it goes on as it should, empties the slot and so feeds the list, or ends with the answer that the
 -- plain list gives. The reach is lowered only after the slot was emptied, to the list's largest index, so it covers every row all the time.
-use Prim.Native.Nat.{ℕ, _-_, _≤_}
+use Prim.Native.Nat.{ℕ, zero, suc, _-_, _≤_}
 use mathlib.Core.Bool.{Bool, true, false, cond}
 use mathlib.Core.Path.{_≡_, refl, sym, ap, subst, _∙_}
 use mathlib.Core.Logic.{_⊎_, inl, inr, _≢_}
 use mathlib.Core.List.{List}
 use native.Mathlib.Omega.{arith}
 use native.Mathlib.Decide.{ℕ-discrete}
-use borrow.Author.Tests.{eqb-false}
-use lib.Dec.{eqb}
-use lib.ListN.{set}
+use borrow.Author.Tests.{eqb-false, ltb-true, ltb-false}
+use lib.Dec.{eqb, ltb}
+use lib.ListN.{length, getD, set, List·getD-eq-default}
+use lib.Seq.{set-out, getD-set-same}
 use Rattle.conditions.specs.Conditions.{both}
 use Rattle.conditions.proofs.ConditionLaws.{both-left, both-right}
 use Rattle.hash.specs.Position.{positionOf}
@@ -19,7 +20,7 @@ use Rattle.record.specs.declared.Removal.{Removal}
 use Rattle.record.specs.declared.RemovalStage.{RemovalStage}
 use Rattle.record.specs.declared.RemovalStage.the-variants.{Searching, Found as RemovalStage·Found, Lowering}
 use Rattle.record.specs.declared.WriterWork.the-variants.{Removing}
-use Rattle.record.specs.Parts.{numbered, withNumbered, countOf, withCount, withReach, withCounts}
+use Rattle.record.specs.Parts.{numbered, withNumbered, countIn, countOf, withCount, withReach, withCounts}
 use Rattle.slot_words.specs.Points.{validPoint}
 use Rattle.work_ranges.specs.WorkRanges.{removalStageInRange, removalInRange}
 use Rattle.answers.specs.Answers.{removed, endedWith, finishes}
@@ -38,12 +39,25 @@ use Rattle.search.proofs.TrailLaws.{Knows, search-knows}
 use Rattle.effects.specs.declared.memory.WriterAccess.the-variants.{Read, StoreReach}
 use Rattle.effects.specs.declared.update.Update.{Update}
 use Rattle.effects.specs.declared.update.Update.the-variants.{Nothing, Uncounted}
-use Rattle.effects.specs.Counts.{uncounted, largestCounted}
+use Rattle.effects.specs.Counts.{oneLess, uncounted, largestCounted}
 use Rattle.effects.specs.Memory.{storeWord, accessRead, slotsAfter}
 use Rattle.effects.specs.Effects.{ends, updated}
 use Rattle.effects.proofs.CountLaws.{largest-high, largest-covers, largest-counted}
 use Rattle.effects.proofs.StepAgreement.{Standing, standing, RemovalOK, WorkOK, begun, fedAt, no-command, StepOK, goes-on, ends-fed, empties, lowers}
 use Rattle.removal.specs.Removal.{removalStageAccess, removalAccess, removalAt, removalAnswered, removalSearched, isLast, removalEmpties, removalLowers, removalStageAdvance, removalAdvance}
+
+-- a count that was lowered by one, read again; there is none to lower past the end
+uncounted-read : (counts : List ℕ) (n : ℕ) → numbered (withNumbered counts n (numbered counts n 0 - 1)) n 0 ≡ numbered counts n 0 - 1
+unfolding numbered withNumbered
+uncounted-read counts zero = refl
+uncounted-read counts (suc i) = go (ltb i (length counts)) refl
+  where
+    go : (inside : Bool) → ltb i (length counts) ≡ inside → getD (set counts i (getD counts i 0 - 1)) i 0 ≡ getD counts i 0 - 1
+    go true e = getD-set-same counts i (getD counts i 0 - 1) 0 (ltb-true i (length counts) e)
+    go false e =
+        let past = ltb-false i (length counts) e in
+        let none : getD counts i 0 ≡ 0 = List·getD-eq-default counts 0 (omega arith) in
+        ap (λ (l : List ℕ). getD l i 0) (set-out counts i (getD counts i 0 - 1) (omega arith)) ∙ omega arith
 
 module _ (panel : Record) (slots : List ℕ) (rows : Rows) (removal : Removal) (agrees : Agrees (panel .m) (panel .k) (panel .reach) (panel .counts) slots rows) (valid : validPoint (removal .point) ≡ true) where
   abbrev m : ℕ
@@ -133,11 +147,11 @@ module _ (panel : Record) (slots : List ℕ) (rows : Rows) (removal : Removal) (
         ends-fed unfed refl (ap (λ (reach : ℕ). finishes (removed reach)) (sym (top-is m k (panel .reach) counts-after (set slots slot 0) (without q rows) emptied after))) (steady-without q rows) (no-command refl refl)
         (record { agrees = emptied; work = after })
 
-    pub empties-slot : StepOK panel slots (storeWord m q i 0) (removalEmpties panel removal i) rows (removeRow m k q rows) (Removing removal)
-    unfolding removalEmpties isLast uncounted withCount withCounts countOf both
+    pub empties-slot : StepOK panel slots (storeWord m q i 0) (removalEmpties (panel .reach) (panel .counts) removal i) rows (removeRow m k q rows) (Removing removal)
+    unfolding removalEmpties isLast both
     empties-slot =
-        subst (λ t. StepOK panel slots (storeWord m q i 0) (removalEmpties panel removal i) rows t (Removing removal)) (sym told-gone)
-        (go (eqb (numbered counts-after i 0) 0) refl (eqb i (panel .reach)) refl)
+        subst (λ t. StepOK panel slots (storeWord m q i 0) (removalEmpties (panel .reach) (panel .counts) removal i) rows t (Removing removal)) (sym told-gone)
+        (go (eqb (oneLess (countIn (panel .counts) i)) 0) (ap (λ (n : ℕ). eqb n 0) (uncounted-read (panel .counts) i)) (eqb i (panel .reach)) refl)
       where
         go : (none : Bool) → eqb (numbered counts-after i 0) 0 ≡ none → (top : Bool) → eqb i (panel .reach) ≡ top → StepOK panel slots (storeWord m q i 0) (cond (both none top) (removalAt removal Lowering (Uncounted i)) (ends (Uncounted i) (removed (panel .reach)))) rows (tells (without q rows) (removed (largestIndex m k (without q rows)))) (Removing removal)
         go true e true f = last-step
@@ -145,33 +159,33 @@ module _ (panel : Record) (slots : List ℕ) (rows : Rows) (removal : Removal) (
         go false e top f = only-step (inl (eqb-false (numbered counts-after i 0) 0 e))
 
   -- the reach is lowered to the list's largest index
-  lowers-reach : fedAt (removal .stage) ≡ 1 → StepOK panel slots (StoreReach (largestCounted panel)) (removalLowers panel) rows (removeRow m k q rows) (Removing removal)
-  unfolding slotsAfter removalLowers ends updated withReach countOf
+  lowers-reach : fedAt (removal .stage) ≡ 1 → StepOK panel slots (StoreReach (largestCounted k (panel .counts))) (removalLowers k (panel .counts)) rows (removeRow m k q rows) (Removing removal)
+  unfolding slotsAfter removalLowers ends updated withReach
   lowers-reach fed =
-      lowers refl fed refl (ap (λ (reach : ℕ). finishes (removed reach)) (sym (top-is m k (largestCounted panel) (panel .counts) slots rows after tight))) refl
+      lowers refl fed refl (ap (λ (reach : ℕ). finishes (removed reach)) (sym (top-is m k (largestCounted k (panel .counts)) (panel .counts) slots rows after tight))) refl
       (record { agrees = after; work = tight })
     where
-      count-is : (i : ℕ) → 1 ≤ i → i ≤ k → countOf panel i ≡ countIndex m k i rows
+      count-is : (i : ℕ) → 1 ≤ i → i ≤ k → countIn (panel .counts) i ≡ countIndex m k i rows
       count-is i low high = agrees .counted i low high
 
-      after : Agrees m k (largestCounted panel) (panel .counts) slots rows
+      after : Agrees m k (largestCounted k (panel .counts)) (panel .counts) slots rows
       after =
-          agrees-reached m k (panel .reach) (panel .counts) slots rows agrees (largestCounted panel) (largest-high panel)
+          agrees-reached m k (panel .reach) (panel .counts) slots rows agrees (largestCounted k (panel .counts)) (largest-high (panel .counts) k)
           (λ p value place j e lowest.
           let some : 1 ≤ countIndex m k j rows = rw (index-is m k p place j lowest) at (found-counted m k p value place rows e) in
-          largest-covers panel j (lowest .low) (lowest .high) (omega (arith, count-is j (lowest .low) (lowest .high))))
+          largest-covers (panel .counts) k j (lowest .low) (lowest .high) (omega (arith, count-is j (lowest .low) (lowest .high))))
 
-      tight : Tight m k (largestCounted panel) rows
-      tight = go (largest-counted panel)
+      tight : Tight m k (largestCounted k (panel .counts)) rows
+      tight = go (largest-counted (panel .counts) k)
         where
-          go : (largestCounted panel ≡ 0) ⊎ ((1 ≤ largestCounted panel) × (countOf panel (largestCounted panel) ≢ 0)) → Tight m k (largestCounted panel) rows
+          go : (largestCounted k (panel .counts) ≡ 0) ⊎ ((1 ≤ largestCounted k (panel .counts)) × (countIn (panel .counts) (largestCounted k (panel .counts)) ≢ 0)) → Tight m k (largestCounted k (panel .counts)) rows
           go (inl z) = inl z
           go (inr x) =
               inr
-              (counted-found m k (largestCounted panel) rows (agrees .distinct)
-              (omega (arith, x .1, count-is (largestCounted panel) (x .0) (largest-high panel))))
+              (counted-found m k (largestCounted k (panel .counts)) rows (agrees .distinct)
+              (omega (arith, x .1, count-is (largestCounted k (panel .counts)) (x .0) (largest-high (panel .counts) k))))
 
-  at-stage : (stage : RemovalStage) → removal .stage ≡ stage → removalStageInRange k stage ≡ true → RemovalOK m k (panel .reach) slots rows q stage → StepOK panel slots (removalStageAccess panel removal stage) (removalStageAdvance panel removal stage (accessRead slots (removalStageAccess panel removal stage))) rows (removeRow m k q rows) (Removing removal)
+  at-stage : (stage : RemovalStage) → removal .stage ≡ stage → removalStageInRange k stage ≡ true → RemovalOK m k (panel .reach) slots rows q stage → StepOK panel slots (removalStageAccess m k (panel .counts) removal stage) (removalStageAdvance k (panel .reach) (panel .counts) removal stage (accessRead slots (removalStageAccess m k (panel .counts) removal stage))) rows (removeRow m k q rows) (Removing removal)
   unfolding removalStageAccess removalStageAdvance removalStageInRange accessRead
   at-stage (Searching search) e inside h =
       searched (searchAccess m q search) (searchAdvance (panel .reach) q search (wordRead slots (searchAccess m q search))) (ap fedAt e) (h .1)
@@ -180,7 +194,7 @@ module _ (panel : Record) (slots : List ℕ) (rows : Rows) (removal : Removal) (
   at-stage Lowering e inside h = lowers-reach (ap fedAt e)
 
 -- a removal's step
-pub removal-agrees : (panel : Record) (slots : List ℕ) (rows : Rows) (removal : Removal) → Agrees (panel .m) (panel .k) (panel .reach) (panel .counts) slots rows → removalInRange (panel .k) removal ≡ true → WorkOK (panel .m) (panel .k) (panel .reach) slots rows (Removing removal) → StepOK panel slots (removalAccess panel removal) (removalAdvance panel removal (accessRead slots (removalAccess panel removal))) rows (removeRow (panel .m) (panel .k) (removal .point) rows) (Removing removal)
+pub removal-agrees : (panel : Record) (slots : List ℕ) (rows : Rows) (removal : Removal) → Agrees (panel .m) (panel .k) (panel .reach) (panel .counts) slots rows → removalInRange (panel .k) removal ≡ true → WorkOK (panel .m) (panel .k) (panel .reach) slots rows (Removing removal) → StepOK panel slots (removalAccess (panel .m) (panel .k) (panel .counts) removal) (removalAdvance (panel .k) (panel .reach) (panel .counts) removal (accessRead slots (removalAccess (panel .m) (panel .k) (panel .counts) removal))) rows (removeRow (panel .m) (panel .k) (removal .point) rows) (Removing removal)
 unfolding removalAccess removalAdvance removalInRange
 removal-agrees panel slots rows removal agrees inside h =
     at-stage panel slots rows removal agrees (both-left (validPoint (removal .point)) (removalStageInRange (panel .k) (removal .stage)) inside) (removal .stage) refl

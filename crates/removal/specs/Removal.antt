@@ -1,14 +1,14 @@
 -- Document 01, "Steps": a removal. Where it compares an index with the reach, "the record's own reach at that step is meant".
 use Prim.Native.Nat.{ℕ}
 use mathlib.Core.Bool.{Bool, cond}
+use mathlib.Core.List.{List}
 use lib.Dec.{eqb}
 use Rattle.conditions.specs.Conditions.{both}
-use Rattle.record.specs.declared.Record.{Record}
 use Rattle.record.specs.declared.Removal.{Removal}
 use Rattle.record.specs.declared.RemovalStage.{RemovalStage}
 use Rattle.record.specs.declared.RemovalStage.the-variants.{Searching, Found as RemovalStage·Found, Lowering}
 use Rattle.record.specs.declared.WriterWork.the-variants.{Removing}
-use Rattle.record.specs.Parts.{countOf}
+use Rattle.record.specs.Parts.{countIn}
 use Rattle.search.specs.declared.Searched.{Searched}
 use Rattle.search.specs.declared.Searched.the-variants.{Going, Answered}
 use Rattle.search.specs.declared.SearchAnswer.{SearchAnswer}
@@ -19,19 +19,19 @@ use Rattle.effects.specs.declared.memory.WriterAccess.{WriterAccess}
 use Rattle.effects.specs.declared.memory.WriterAccess.the-variants.{Read, StoreReach}
 use Rattle.effects.specs.declared.update.Update.{Update}
 use Rattle.effects.specs.declared.update.Update.the-variants.{Nothing, Reach, Uncounted}
-use Rattle.effects.specs.Counts.{uncounted, largestCounted}
+use Rattle.effects.specs.Counts.{oneLess, largestCounted}
 use Rattle.effects.specs.Memory.{storeWord}
 use Rattle.effects.specs.Effects.{WriterEffect, ends}
 
 -- part 1, by the stage: search; "found, store 0"; "one more step stores the reach as the largest index still counted, or 0"
-unfoldable pub removalStageAccess : Record → Removal → RemovalStage → WriterAccess
-removalStageAccess panel removal (Searching search) = Read (searchAccess (panel .m) (removal .point) search)
-removalStageAccess panel removal (RemovalStage·Found place) = storeWord (panel .m) (removal .point) (place .index) 0
-removalStageAccess panel removal Lowering = StoreReach (largestCounted panel)
+unfoldable pub removalStageAccess : ℕ → ℕ → List ℕ → Removal → RemovalStage → WriterAccess
+removalStageAccess m k counts removal (Searching search) = Read (searchAccess m (removal .point) search)
+removalStageAccess m k counts removal (RemovalStage·Found place) = storeWord m (removal .point) (place .index) 0
+removalStageAccess m k counts removal Lowering = StoreReach (largestCounted k counts)
 
 -- part 1: the access that comes next
-unfoldable pub removalAccess : Record → Removal → WriterAccess
-removalAccess panel removal = removalStageAccess panel removal (removal .stage)
+unfoldable pub removalAccess : ℕ → ℕ → List ℕ → Removal → WriterAccess
+removalAccess m k counts removal = removalStageAccess m k counts removal (removal .stage)
 
 -- the removal goes on at this stage
 unfoldable pub removalAt : Removal → RemovalStage → Update → WriterEffect
@@ -49,25 +49,26 @@ removalSearched removal (Going search) = removalAt removal (Searching search) No
 removalSearched removal (Answered answer) = removalAnswered removal answer
 
 -- "If that count is now 0 and i is the reach"
-unfoldable pub isLast : Record → ℕ → Bool
-isLast panel index = both (eqb (countOf (uncounted panel index) index) 0) (eqb index (panel .reach))
+unfoldable pub isLast : ℕ → List ℕ → ℕ → Bool
+isLast reach counts index = both (eqb (oneLess (countIn counts index)) 0) (eqb index reach)
 
 -- the slot is emptied: "uncount its index i. If that count is now 0 and i is the reach, one more step"; "a removal the reach after"
-unfoldable pub removalEmpties : Record → Removal → ℕ → WriterEffect
-removalEmpties panel removal index =
-    cond (isLast panel index) (removalAt removal Lowering (Uncounted index)) (ends (Uncounted index) (removed (panel .reach)))
+unfoldable pub removalEmpties : ℕ → List ℕ → Removal → ℕ → WriterEffect
+removalEmpties reach counts removal index =
+    cond (isLast reach counts index) (removalAt removal Lowering (Uncounted index)) (ends (Uncounted index) (removed reach))
 
 -- "stores the reach as the largest index still counted, or 0"; "a removal the reach after"
-unfoldable pub removalLowers : Record → WriterEffect
-removalLowers panel = ends (Reach (largestCounted panel)) (removed (largestCounted panel))
+unfoldable pub removalLowers : ℕ → List ℕ → WriterEffect
+removalLowers k counts = ends (Reach (largestCounted k counts)) (removed (largestCounted k counts))
 
 -- part 3, by the stage
-unfoldable pub removalStageAdvance : Record → Removal → RemovalStage → ℕ → WriterEffect
-removalStageAdvance panel removal (Searching search) word =
-    removalSearched removal (searchAdvance (panel .reach) (removal .point) search word)
-removalStageAdvance panel removal (RemovalStage·Found place) word = removalEmpties panel removal (place .index)
-removalStageAdvance panel removal Lowering word = removalLowers panel
+unfoldable pub removalStageAdvance : ℕ → ℕ → List ℕ → Removal → RemovalStage → ℕ → WriterEffect
+removalStageAdvance k reach counts removal (Searching search) word =
+    removalSearched removal (searchAdvance reach (removal .point) search word)
+removalStageAdvance k reach counts removal (RemovalStage·Found place) word =
+    removalEmpties reach counts removal (place .index)
+removalStageAdvance k reach counts removal Lowering word = removalLowers k counts
 
 -- part 3: what follows from the reach, or from the word read or stored
-unfoldable pub removalAdvance : Record → Removal → ℕ → WriterEffect
-removalAdvance panel removal word = removalStageAdvance panel removal (removal .stage) word
+unfoldable pub removalAdvance : ℕ → ℕ → List ℕ → Removal → ℕ → WriterEffect
+removalAdvance k reach counts removal word = removalStageAdvance k reach counts removal (removal .stage) word

@@ -7,48 +7,47 @@ use answers::Ending;
 use answers::Progress;
 use conditions::both_hold;
 use effects::counts::largest_counted;
-use effects::counts::with_uncounted;
+use effects::counts::one_less;
 use effects::memory::WriterAccess;
 use effects::memory::store_word;
 use effects::update::Effect;
 use effects::update::Update;
 use effects::update::ended;
-use record::Record;
 use record::Removal;
 use record::RemovalStage;
 use record::WriterWork;
-use record::parts::count_of;
+use record::parts::count_in;
 use search::SearchAnswer;
 use search::Searched;
 use search::search_access;
 use search::search_advance;
 
 // Part 1: the access that comes next.
-pub fn removal_access(panel: Record, removal: Removal) -> WriterAccess
-    ensures { λ r. ⌜ r ≡ removalAccess panel removal ⌝ }
+pub fn removal_access(m: u32, k: u32, counts: [u32; 64], removal: Removal) -> WriterAccess
+    ensures { λ r. ⌜ r ≡ removalAccess m k counts removal ⌝ }
 {
     let stage = removal.stage;
     match stage {
         RemovalStage::Searching(search) => {
-            WriterAccess::Read(search_access(search, removal.point, panel.m))
+            WriterAccess::Read(search_access(search, removal.point, m))
         }
-        RemovalStage::Found(place) => store_word(panel.m, removal.point, place.index, 0),
-        RemovalStage::Lowering => WriterAccess::StoreReach(largest_counted(panel)),
+        RemovalStage::Found(place) => store_word(m, removal.point, place.index, 0),
+        RemovalStage::Lowering => WriterAccess::StoreReach(largest_counted(k, counts)),
     }
 }
 
 // Part 3: what follows from the reach, or from the word read or stored.
-pub fn removal_advance(panel: Record, removal: Removal, word: u64) -> Effect
-    ensures { λ r. ⌜ paperEffect r ≡ removalAdvance panel removal word ⌝ }
+pub fn removal_advance(k: u32, reach: u32, counts: [u32; 64], removal: Removal, word: u64) -> Effect
+    ensures { λ r. ⌜ paperEffect r ≡ removalAdvance k reach counts removal word ⌝ }
 {
     let stage = removal.stage;
     match stage {
         RemovalStage::Searching(search) => removal_searched(
             removal,
-            search_advance(search, removal.point, panel.reach, word),
+            search_advance(search, removal.point, reach, word),
         ),
-        RemovalStage::Found(place) => removal_empties(panel, removal, place.index),
-        RemovalStage::Lowering => removal_lowers(panel),
+        RemovalStage::Found(place) => removal_empties(reach, counts, removal, place.index),
+        RemovalStage::Lowering => removal_lowers(k, counts),
     }
 }
 
@@ -88,27 +87,27 @@ pub fn removal_answered(removal: Removal, answer: SearchAnswer) -> Effect
 }
 
 // The index is the reach, and no point uses it once this one is uncounted.
-fn is_last(panel: Record, index: u32) -> bool
-    ensures { λ r. ⌜ r ≡ isLast panel index ⌝ }
+fn is_last(reach: u32, counts: [u32; 64], index: u32) -> bool
+    ensures { λ r. ⌜ r ≡ isLast reach counts index ⌝ }
 {
-    let left = count_of(with_uncounted(panel, index), index);
-    both_hold(left == 0, index == panel.reach)
+    let left = one_less(count_in(counts, index));
+    both_hold(left == 0, index == reach)
 }
 
 // The slot is emptied. The reach is lowered by a step of its own.
-fn removal_empties(panel: Record, removal: Removal, index: u32) -> Effect
-    ensures { λ r. ⌜ paperEffect r ≡ removalEmpties panel removal index ⌝ }
+fn removal_empties(reach: u32, counts: [u32; 64], removal: Removal, index: u32) -> Effect
+    ensures { λ r. ⌜ paperEffect r ≡ removalEmpties reach counts removal index ⌝ }
 {
-    if is_last(panel, index) {
+    if is_last(reach, counts, index) {
         return removal_at(removal, RemovalStage::Lowering, Update::Uncounted(index));
     }
-    ended(Update::Uncounted(index), Ending::Removed(panel.reach))
+    ended(Update::Uncounted(index), Ending::Removed(reach))
 }
 
 // The reach is lowered, and the removal ends.
-fn removal_lowers(panel: Record) -> Effect
-    ensures { λ r. ⌜ paperEffect r ≡ removalLowers panel ⌝ }
+fn removal_lowers(k: u32, counts: [u32; 64]) -> Effect
+    ensures { λ r. ⌜ paperEffect r ≡ removalLowers k counts ⌝ }
 {
-    let reach = largest_counted(panel);
-    ended(Update::Reach(reach), Ending::Removed(reach))
+    let lowered = largest_counted(k, counts);
+    ended(Update::Reach(lowered), Ending::Removed(lowered))
 }

@@ -16,7 +16,7 @@ use Rattle.put.proofs.PutAgreement.{put-agrees}
 use Rattle.change.specs.Change.{masksOf}
 use Rattle.change.proofs.ChangeAgreement.{change-agrees}
 use Rattle.removal.proofs.RemovalAgreement.{removal-agrees}
-use Rattle.writer.specs.Step.{writerAccess, writerAdvance}
+use Rattle.writer.specs.Step.{workAccess, writerAccess, workAdvance, writerAdvance}
 
 -- the operation that this work carries out
 unfoldable pub operationOf : WriterWork → Operation
@@ -34,7 +34,7 @@ operation-begun (Changing c) = refl
 operation-begun (Removing r) = refl
 
 pub writer-agrees : (panel : Record) (slots : List ℕ) (rows : Rows) (work : WriterWork) → Agrees (panel .m) (panel .k) (panel .reach) (panel .counts) slots rows → writerInRange (panel .k) work ≡ true → isWriterIdle work ≡ false → WorkOK (panel .m) (panel .k) (panel .reach) slots rows work → StepOK panel slots (writerAccess panel work) (writerAdvance panel work (slotStored (writerAccess panel work)) (accessRead slots (writerAccess panel work))) rows (feed (panel .m) (panel .k) (operationOf work) rows) work
-unfolding writerAccess writerAdvance writerInRange operationOf feed
+unfolding workAccess workAdvance writerInRange operationOf feed
 writer-agrees panel slots rows Idle agrees fits busy ok = absurd (false≢true (sym busy))
 writer-agrees panel slots rows (Putting p) agrees fits busy ok = put-agrees panel slots rows p agrees fits ok
 writer-agrees panel slots rows (Changing c) agrees fits busy ok = change-agrees panel slots rows c agrees fits ok

@@ -21,33 +21,33 @@ use Rattle.record_ranges.specs.Ranges.{inRange}
 use Rattle.record_ranges.proofs.Laws.{fields, sizes-in-range, with-writer-in-range}
 use Rattle.writer.specs.Starts.{startRefusal, startWriter, startPut, startRemoval}
 use Rattle.writer.specs.WriterFacts.{Does, reads, stores-reach, stores-slot, Keeps, Begun}
-use Rattle.writer.specs.Step.{writerAccess, writerAdvance, stepRefusal, afterStep, writerRuns, stepWriter}
+use Rattle.writer.specs.Step.{workAccess, writerAccess, workAdvance, writerAdvance, stepRefusal, afterStep, writerRuns, stepWriter}
 use Rattle.answers.specs.Answers.{started, isUnderway, Outcome, outcome, unlessRefused}
 use Rattle.answers.proofs.AnswerLaws.{unless}
 use Rattle.search.proofs.SearchLaws.{slotRead}
 use Rattle.effects.specs.declared.memory.WriterAccess.{WriterAccess}
 use Rattle.effects.specs.declared.memory.WriterAccess.the-variants.{Read, StoreReach, StoreSlot}
 use Rattle.effects.specs.Memory.{slotStored, accessRead, slotsAfter}
-use Rattle.effects.specs.Effects.{WriterEffect, goesOn, updated}
+use Rattle.effects.specs.Effects.{WriterEffect, goesOn, updated, reachAfter}
 use Rattle.record.specs.Idle.{isWriterIdle}
-use Rattle.effects.proofs.EffectLaws.{slotNamed, updated-in-range, reachAfter, reachStored, Updated, update-leaves, writerLeft, OneEffect}
+use Rattle.effects.proofs.EffectLaws.{slotNamed, updated-in-range, reachStored, Updated, update-leaves, writerLeft, OneEffect}
 use Rattle.put.proofs.PutLaws.{put-effect, put-reach, put-inside}
 use Rattle.change.proofs.ChangeLaws.{change-effect, change-reach, change-inside}
 use Rattle.removal.proofs.RemovalLaws.{removal-effect, removal-reach, removal-inside}
 
 writer-effect : (panel : Record) (work : WriterWork) (slot word : ℕ) → 1 ≤ panel .k → panel .reach ≤ panel .k → writerInRange (panel .k) work ≡ true → isWriterIdle work ≡ false → OneEffect (panel .k) (panel .reach) (writerLeft (panel .k) (panel .reach) work) (writerAdvance panel work slot word)
-unfolding writerAdvance writerInRange
+unfolding workAdvance writerInRange
 writer-effect panel Idle slot word low r h e = absurd (false≢true (sym e))
 writer-effect panel (Putting put) slot word low r h e = put-effect (panel .k) (panel .reach) slot put word low r h
 writer-effect panel (Changing change) slot word low r h e = change-effect (panel .k) (panel .reach) change word r h
-writer-effect panel (Removing removal) slot word low r h e = removal-effect panel removal word r h
+writer-effect panel (Removing removal) slot word low r h e = removal-effect (panel .k) (panel .reach) (panel .counts) removal word r h
 
 writer-reach : (panel : Record) (work : WriterWork) (slot word : ℕ) → reachAfter (panel .reach) (writerAdvance panel work slot word .update) ≡ reachStored (panel .reach) (writerAccess panel work)
-unfolding writerAdvance writerAccess reachAfter reachStored goesOn
+unfolding workAdvance workAccess reachAfter reachStored goesOn
 writer-reach panel Idle slot word = refl
 writer-reach panel (Putting put) slot word = put-reach (panel .m) (panel .k) (panel .reach) slot put word
 writer-reach panel (Changing change) slot word = change-reach (panel .m) (panel .reach) change word
-writer-reach panel (Removing removal) slot word = removal-reach panel removal word
+writer-reach panel (Removing removal) slot word = removal-reach (panel .m) (panel .k) (panel .reach) (panel .counts) removal word
 
 pub slots-length : (slots : List ℕ) (access : WriterAccess) → length (slotsAfter slots access) ≡ length slots
 unfolding slotsAfter
@@ -133,11 +133,11 @@ module _ (panel : Record) (slots : List ℕ) (point : ℕ) where
   removal-begins = start-begins panel slots point _ (λ valid. both-true (validPoint point) true valid refl) refl
 
 writer-inside : (panel : Record) (work : WriterWork) → 1 ≤ panel .m → slotNamed (writerAccess panel work) < panel .m
-unfolding writerAccess slotNamed slotRead
+unfolding workAccess slotNamed slotRead
 writer-inside panel Idle low = low
 writer-inside panel (Putting put) low = put-inside (panel .m) (panel .reach) put low
 writer-inside panel (Changing change) low = change-inside (panel .m) change low
-writer-inside panel (Removing removal) low = removal-inside panel removal low
+writer-inside panel (Removing removal) low = removal-inside (panel .m) (panel .k) (panel .counts) removal low
 
 module _ (panel : Record) (slots : List ℕ) where
   -- m, k, the number of slots and the readers stay

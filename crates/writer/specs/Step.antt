@@ -20,19 +20,27 @@ use Rattle.put.specs.Put.{putAccess, putAdvance}
 use Rattle.change.specs.Change.{changeAccess, changeAdvance}
 use Rattle.removal.specs.Removal.{removalAccess, removalAdvance}
 
--- part 1: the access that comes next
-unfoldable pub writerAccess : Record → WriterWork → WriterAccess
-writerAccess panel Idle = Read ReadAccess·Nothing
-writerAccess panel (Putting put) = putAccess (panel .m) (panel .reach) put
-writerAccess panel (Changing change) = changeAccess (panel .m) change
-writerAccess panel (Removing removal) = removalAccess panel removal
+-- part 1, of a record with these numbers: the access that comes next
+unfoldable pub workAccess : ℕ → ℕ → ℕ → List ℕ → WriterWork → WriterAccess
+workAccess m k reach counts Idle = Read ReadAccess·Nothing
+workAccess m k reach counts (Putting put) = putAccess m reach put
+workAccess m k reach counts (Changing change) = changeAccess m change
+workAccess m k reach counts (Removing removal) = removalAccess m k counts removal
 
--- part 3: what follows from the reach, from the word read, or from the slot stored; a writer without work never comes to it, since 5 is judged before
-unfoldable pub writerAdvance : Record → WriterWork → ℕ → ℕ → WriterEffect
-writerAdvance panel Idle slot word = goesOn Idle
-writerAdvance panel (Putting put) slot word = putAdvance (panel .k) (panel .reach) slot put word
-writerAdvance panel (Changing change) slot word = changeAdvance (panel .reach) change word
-writerAdvance panel (Removing removal) slot word = removalAdvance panel removal word
+-- part 1: the access that comes next
+abbrev pub writerAccess : Record → WriterWork → WriterAccess
+writerAccess panel work = workAccess (panel .m) (panel .k) (panel .reach) (panel .counts) work
+
+-- part 3, of a record with these numbers: what follows from the reach, from the word read, or from the slot stored; a writer without work never comes to it, since 5 is judged before
+unfoldable pub workAdvance : ℕ → ℕ → List ℕ → WriterWork → ℕ → ℕ → WriterEffect
+workAdvance k reach counts Idle slot word = goesOn Idle
+workAdvance k reach counts (Putting put) slot word = putAdvance k reach slot put word
+workAdvance k reach counts (Changing change) slot word = changeAdvance reach change word
+workAdvance k reach counts (Removing removal) slot word = removalAdvance k reach counts removal word
+
+-- part 3: what follows from the access
+abbrev pub writerAdvance : Record → WriterWork → ℕ → ℕ → WriterEffect
+writerAdvance panel work slot word = workAdvance (panel .k) (panel .reach) (panel .counts) work slot word
 
 -- "writer's step 1, 5"
 unfoldable pub stepRefusal : ℕ → Record → ℕ

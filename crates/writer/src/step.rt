@@ -4,7 +4,7 @@ ghost use Rattle.refusal.specs.Refusals.{paperJudged};
 ghost use Rattle.record.specs.Parts.{withWriter};
 ghost use Rattle.answers.specs.Answers.{stepAnswer, paperProgress, paperStep, outcome};
 ghost use Rattle.effects.specs.Effects.{updated, paperEffect};
-ghost use Rattle.writer.specs.Step.{writerAccess, writerAdvance, stepRefusal, writerRuns, stepWriter};
+ghost use Rattle.writer.specs.Step.{workAccess, workAdvance, stepRefusal, writerRuns, stepWriter};
 use answers::StepAnswer;
 use answers::StepOutcome;
 use answers::result_of;
@@ -30,27 +30,27 @@ use removal::removal_advance;
 use search::access::ReadAccess;
 
 // Part 1: the access that comes next.
-pub fn writer_access(panel: Record, work: WriterWork) -> WriterAccess
-    ensures { λ r. ⌜ r ≡ writerAccess panel work ⌝ }
+pub fn writer_access(m: u32, k: u32, reach: u32, counts: [u32; 64], work: WriterWork) -> WriterAccess
+    ensures { λ r. ⌜ r ≡ workAccess m k reach counts work ⌝ }
 {
     match work {
         WriterWork::Idle => WriterAccess::Read(ReadAccess::Nothing),
-        WriterWork::Putting(put) => put_access(put, panel.m, panel.reach),
-        WriterWork::Changing(change) => change_access(change, panel.m),
-        WriterWork::Removing(removal) => removal_access(panel, removal),
+        WriterWork::Putting(put) => put_access(put, m, reach),
+        WriterWork::Changing(change) => change_access(change, m),
+        WriterWork::Removing(removal) => removal_access(m, k, counts, removal),
     }
 }
 
 // Part 3: what follows from the reach, from the word read, or from the slot stored. A writer without work
 // never comes to it: its step is refused with 5.
-pub fn writer_advance(panel: Record, work: WriterWork, slot: u32, word: u64) -> Effect
-    ensures { λ r. ⌜ paperEffect r ≡ writerAdvance panel work slot word ⌝ }
+pub fn writer_advance(k: u32, reach: u32, counts: [u32; 64], work: WriterWork, slot: u32, word: u64) -> Effect
+    ensures { λ r. ⌜ paperEffect r ≡ workAdvance k reach counts work slot word ⌝ }
 {
     match work {
         WriterWork::Idle => underway(WriterWork::Idle),
-        WriterWork::Putting(put) => put_advance(put, panel.k, panel.reach, slot, word),
-        WriterWork::Changing(change) => change_advance(change, panel.reach, word),
-        WriterWork::Removing(removal) => removal_advance(panel, removal, word),
+        WriterWork::Putting(put) => put_advance(put, k, reach, slot, word),
+        WriterWork::Changing(change) => change_advance(change, reach, word),
+        WriterWork::Removing(removal) => removal_advance(k, reach, counts, removal, word),
     }
 }
 
@@ -88,11 +88,13 @@ fn run_step(panel: Record, slots: &mut [u64]) -> StepOutcome
 {
     let writer = panel.writer;
     let work = writer.work;
-    let access = writer_access(panel, work);
+    let counts = panel.counts;
+    let access = writer_access(panel.m, panel.k, panel.reach, counts, work);
     let word = perform(slots, access);
+    let slot = slot_stored(access);
     finish(
         panel,
-        writer_advance(panel, work, slot_stored(access), word),
+        writer_advance(panel.k, panel.reach, counts, work, slot, word),
     )
 }
 

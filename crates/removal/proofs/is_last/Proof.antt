@@ -4,11 +4,11 @@ use Rattle.removal.specs.Removal.{isLast}
 use Rattle.removal.proofs.is_last.Statement.{statement}
 use Rattle.removal.proofs.is_last.Tie as tie
 
-with-uncounted-requires : tie.Need-with-uncounted-requires
-with-uncounted-requires c κs = search needs
+count-in-requires : tie.Need-count-in-requires
+count-in-requires c κs = search needs
 
-count-of-requires : tie.Need-count-of-requires
-count-of-requires c κs = search needs
+one-less-requires : tie.Need-one-less-requires
+one-less-requires c κs = search needs
 
 both-hold-requires : tie.Need-both-hold-requires
 both-hold-requires c κs = search needs
@@ -19,4 +19,4 @@ returns c = cc
 
 pub is-last-spec : {M : Type 1} → statement M
 is-last-spec =
-    tie.close (tie.spec with-uncounted-requires count-of-requires both-hold-requires returns)
+    tie.close (tie.spec count-in-requires one-less-requires both-hold-requires returns)

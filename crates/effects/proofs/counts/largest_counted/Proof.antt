@@ -8,22 +8,22 @@ use Rattle.effects.proofs.counts.largest_counted.Statement.{statement}
 use Rattle.effects.proofs.counts.largest_counted.Tie as tie
 
 abbrev Inv-loop : tie.InvT-loop
-Inv-loop panel index₀ index = largestUpTo panel index ≡ largestCounted panel
+Inv-loop k counts index₀ index = largestUpTo counts index ≡ largestCounted k counts
 
 abbrev μ-loop : tie.MeasureT-loop
-μ-loop panel index₀ index = index
+μ-loop k counts index₀ index = index
 
 loop-holds : tie.Need-loop-holds Inv-loop μ-loop
 unfolding largestCounted
 loop-holds c = refl
 
-count-of-requires : tie.Need-count-of-requires Inv-loop μ-loop
-count-of-requires c κs = search needs
+count-in-requires : tie.Need-count-in-requires Inv-loop μ-loop
+count-in-requires c κs = search needs
 
 returns : tie.Need-returns Inv-loop μ-loop
 returns c =
     let l = c .before .before .before .loop in
-    sym (largest-here (c .before .before .before .before .args .panel) (l .index) (omega (arith, c .before .before .loop-test)) (λ e. c .if1 .taken (c .before .count-of .ensures ∙ e))) ∙ l .inv
+    sym (largest-here (c .before .before .before .before .args .counts) (l .index) (omega (arith, c .before .before .loop-test)) (λ e. c .if1 .taken (c .before .count-in .ensures ∙ e))) ∙ l .inv
 
 sub-index : tie.Need-sub-index Inv-loop μ-loop
 sub-index c = search needs
@@ -34,14 +34,14 @@ loop-less c = omega arith
 loop-again : tie.Need-loop-again Inv-loop μ-loop
 loop-again c =
     let l = c .before .before .before .loop in
-    sym (largest-below (c .before .before .before .before .args .panel) (l .index) (omega (arith, c .before .before .loop-test)) (sym (c .before .count-of .ensures) ∙ c .if1 .left)) ∙ l .inv
+    sym (largest-below (c .before .before .before .before .args .counts) (l .index) (omega (arith, c .before .before .loop-test)) (sym (c .before .count-in .ensures) ∙ c .if1 .left)) ∙ l .inv
 
 returns-2 : tie.Need-returns-2 Inv-loop μ-loop
 unfolding largestUpTo
 returns-2 c =
     let l = c .before .loop in
     let none : l .index ≡ 0 = omega (arith, c .loop-test) in
-    sym (ap (largestUpTo (c .before .before .args .panel)) none) ∙ l .inv
+    sym (ap (largestUpTo (c .before .before .args .counts)) none) ∙ l .inv
 
 pub largest-counted-spec : {M : Type 1} → statement M
 largest-counted-spec =
@@ -50,7 +50,7 @@ largest-counted-spec =
     Inv-loop
     μ-loop
     loop-holds
-    count-of-requires
+    count-in-requires
     returns
     sub-index
     loop-less

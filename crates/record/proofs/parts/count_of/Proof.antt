@@ -1,52 +1,15 @@
--- `record::parts::count_of` meets its contract: the element counted from 1, or what stands for none.
-use mathlib.Core.Path.{_≡_, sym}
-use native.Mathlib.Omega.{arith}
+-- `record::parts::count_of` meets its contract, by that of `count_in`.
 use borrow.Author.Needs.{needs}
-use lib.ListN.{length}
 use Rattle.record.specs.Parts.{countOf}
-use Rattle.record.proofs.Numbered.{mapped-length, numbered-zero, numbered-past, numbered-at}
 use Rattle.record.proofs.parts.count_of.Statement.{statement}
 use Rattle.record.proofs.parts.count_of.Tie as tie
 
+count-in-requires : tie.Need-count-in-requires
+count-in-requires c κs = search needs
+
 returns : tie.Need-returns
 unfolding countOf
-returns c =
-    let a = c .before .args in
-    sym (numbered-zero (a .panel .counts) (a .index) 0 (c .if1 .taken))
-
-returns-2 : tie.Need-returns-2
-unfolding countOf
-returns-2 c =
-    let a = c .before .before .args in
-    let all : length (a .panel .counts) ≡ 64 = mapped-length (a .panel .counts) _ 64 (c .before .before .good .0 .1 .1 .1 .1 .1 .0 .1 .0 .1) in
-    sym (numbered-past (a .panel .counts) (a .index) 0 (omega (arith, c .if2 .taken)))
-
-sub-result : tie.Need-sub-result
-sub-result c = search needs
-
-cast-result : tie.Need-cast-result
-cast-result c = search needs
-
-mul-result : tie.Need-mul-result
-mul-result c = search needs
-
-array-read-result : tie.Need-array-read-result
-array-read-result c = search needs
-
-returns-3 : tie.Need-returns-3
-unfolding countOf
-returns-3 c =
-    let a = c .before .before .before .args in
-    sym (numbered-at (a .panel .counts) (a .index) 0 (omega (arith, c .before .before .if1 .left)))
+returns c = c .count-in .ensures
 
 pub count-of-spec : {M : Type 1} → statement M
-count-of-spec =
-    tie.close
-    (tie.spec
-    returns
-    returns-2
-    sub-result
-    cast-result
-    mul-result
-    array-read-result
-    returns-3)
+count-of-spec = tie.close (tie.spec count-in-requires returns)

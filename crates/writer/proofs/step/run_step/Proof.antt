@@ -29,7 +29,7 @@ same-length c = search needs
 returns : tie.Need-returns
 unfolding writerRuns afterStep
 returns c =
-    let a = c .before .before .before .before .before .before .before .before .before .before .args in
+    let a = c .before .before .before .before .before .before .before .before .before .before .before .args in
     let p = a .panel in
     let s = now (a .slots) in
     let access = c .before .before .before .before .before .before .before .writer-access .ensures in

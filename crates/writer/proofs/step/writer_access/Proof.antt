@@ -1,6 +1,6 @@
 -- `writer::step::writer_access` meets its contract, case by case.
 use borrow.Author.Needs.{needs}
-use Rattle.writer.specs.Step.{writerAccess}
+use Rattle.writer.specs.Step.{workAccess}
 use Rattle.writer.proofs.step.writer_access.Statement.{statement}
 use Rattle.writer.proofs.step.writer_access.Tie as tie
 
@@ -26,19 +26,19 @@ removal-access-requires : tie.Need-removal-access-requires
 removal-access-requires c κs = search needs
 
 returns : tie.Need-returns
-unfolding writerAccess
+unfolding workAccess
 returns c = rw (c .enum-told .given .1)
 
 returns-2 : tie.Need-returns-2
-unfolding writerAccess
+unfolding workAccess
 returns-2 c = rw (c .before .before .work .given .1) (c .put-access .ensures)
 
 returns-3 : tie.Need-returns-3
-unfolding writerAccess
+unfolding workAccess
 returns-3 c = rw (c .before .before .work2 .given .1) (c .change-access .ensures)
 
 returns-4 : tie.Need-returns-4
-unfolding writerAccess
+unfolding workAccess
 returns-4 c = rw (c .before .before .work3 .given .1) (c .removal-access .ensures)
 
 pub writer-access-spec : {M : Type 1} → statement M

@@ -1,6 +1,6 @@
 -- `writer::step::writer_advance` meets its contract, case by case.
 use borrow.Author.Needs.{needs}
-use Rattle.writer.specs.Step.{writerAdvance}
+use Rattle.writer.specs.Step.{workAdvance}
 use Rattle.writer.proofs.step.writer_advance.Statement.{statement}
 use Rattle.writer.proofs.step.writer_advance.Tie as tie
 
@@ -29,19 +29,19 @@ removal-advance-requires : tie.Need-removal-advance-requires
 removal-advance-requires c κs = search needs
 
 returns : tie.Need-returns
-unfolding writerAdvance
+unfolding workAdvance
 returns c = rw (c .before .enum-told .given .1) (c .underway .ensures)
 
 returns-2 : tie.Need-returns-2
-unfolding writerAdvance
+unfolding workAdvance
 returns-2 c = rw (c .before .before .work .given .1) (c .put-advance .ensures)
 
 returns-3 : tie.Need-returns-3
-unfolding writerAdvance
+unfolding workAdvance
 returns-3 c = rw (c .before .before .work2 .given .1) (c .change-advance .ensures)
 
 returns-4 : tie.Need-returns-4
-unfolding writerAdvance
+unfolding workAdvance
 returns-4 c = rw (c .before .before .work3 .given .1) (c .removal-advance .ensures)
 
 pub writer-advance-spec : {M : Type 1} → statement M

@@ -21,9 +21,9 @@ use Rattle.effects.specs.declared.update.Update.the-variants.{Nothing, Reach, C
 use Rattle.effects.specs.declared.memory.WriterAccess.{WriterAccess}
 use Rattle.effects.specs.Memory.{slotStored, accessRead, slotsAfter}
 use Rattle.effects.specs.Counts.{counted}
-use Rattle.effects.specs.Effects.{WriterEffect, goesOn, ends, updated}
+use Rattle.effects.specs.Effects.{WriterEffect, goesOn, ends, updated, reachAfter}
 use Rattle.put.specs.Put.{exceeds, putAt, putAnswered, putSearched, putScanned, putTakes, putStageAdvance, putAdvance}
-use Rattle.writer.specs.Step.{writerAccess, writerAdvance}
+use Rattle.writer.specs.Step.{writerAccess, workAdvance, writerAdvance}
 use Rattle.writer.proofs.WriterLaws.{AtWork}
 use Rattle.whole_operations.specs.Whole.{writerStep}
 use Rattle.whole_operations.specs.WholeFacts.{puts, indexCounted}
@@ -32,24 +32,24 @@ use Rattle.whole_operations.proofs.ChangesLaws.{no-count}
 
 pub record Adds (effect : WriterEffect) : Type 0 where
   pub same-kind : puts (effect .work) ≡ true
-  pub adds : (panel : Record) → updated panel (effect .update) ≡ counted (withReach panel (updated panel (effect .update) .reach)) (indexCounted (effect .update))
+  pub adds : (panel : Record) → updated panel (effect .update) ≡ counted (withReach panel (reachAfter (panel .reach) (effect .update))) (indexCounted (effect .update))
   -- an index is counted by the last step only
   pub last : isUnderway (stepAnswer (effect .progress)) ≡ true → indexCounted (effect .update) ≡ 0
 
 going : (work : WriterWork) → puts work ≡ true → Adds (goesOn work)
-unfolding goesOn updated counted withReach withCount withCounts withNumbered indexCounted
+unfolding goesOn updated reachAfter counted withReach withCount withCounts withNumbered indexCounted
 going work e = record { same-kind = e; adds = λ panel. refl; last = λ h. refl }
 
 ending : (answer : Ending) → Adds (ends Nothing answer)
-unfolding ends puts updated counted withReach withCount withCounts withNumbered indexCounted
+unfolding ends puts updated reachAfter counted withReach withCount withCounts withNumbered indexCounted
 ending answer = record { same-kind = refl; adds = λ panel. refl; last = λ h. refl }
 
 raising : (put : Put) (index : ℕ) → Adds (record { work = Putting put; update = Reach index; progress = continues })
-unfolding puts updated counted withReach withCount withCounts withNumbered indexCounted
+unfolding puts updated reachAfter counted withReach withCount withCounts withNumbered indexCounted
 raising put index = record { same-kind = refl; adds = λ panel. refl; last = λ h. refl }
 
 counting : (index : ℕ) (answer : Ending) → Adds (ends (Counted index) answer)
-unfolding ends puts updated counted withReach withCount withCounts indexCounted
+unfolding ends puts updated reachAfter counted withReach withCount withCounts indexCounted
 counting index answer = record { same-kind = refl; adds = λ panel. refl; last = λ h. absurd (false≢true h) }
 
 module _ (put : Put) where
@@ -88,7 +88,7 @@ module _ (put : Put) where
   put-adds k reach slot (Chosen index) word = takes reach slot index
 
 pub step-adds : (panel : Record) (work : WriterWork) (slot word : ℕ) → puts work ≡ true → Adds (writerAdvance panel work slot word)
-unfolding writerAdvance puts putAdvance
+unfolding workAdvance puts putAdvance
 step-adds panel Idle slot word e = going Idle refl
 step-adds panel (Putting put) slot word e = put-adds put (panel .k) (panel .reach) slot (put .stage) word
 step-adds panel (Changing change) slot word e = absurd (false≢true e)
@@ -102,7 +102,7 @@ none-counted panel index e = no-count panel index _ e
 pub effect-adds : (panel : Record) (work : WriterWork) (slot word : ℕ) (effect : WriterEffect) → puts work ≡ true → effect ≡ writerAdvance panel work slot word → Adds effect
 effect-adds panel work slot word effect kind same = subst Adds (sym same) (step-adds panel work slot word kind)
 
-pub step-kept : (panel : Record) (reach index next-reach next-index : ℕ) (slots stored : List ℕ) (work : WriterWork) (answer : Answer) (access : WriterAccess) (slot word : ℕ) (effect : WriterEffect) → index ≡ 0 → Adds effect → AtWork (outcome (withWriter (counted (withReach panel reach) index) work) slots answer) → isUnderway answer ≡ true → access ≡ writerAccess (withReach panel reach) work → slot ≡ slotStored access → word ≡ accessRead slots access → stored ≡ slotsAfter slots access → effect ≡ writerAdvance (withReach panel reach) work slot word → next-reach ≡ updated (withReach panel reach) (effect .update) .reach → next-index ≡ indexCounted (effect .update) → writerStep (outcome (withWriter (counted (withReach panel reach) index) work) slots answer) ≡ outcome (withWriter (counted (withReach panel next-reach) next-index) (effect .work)) stored (stepAnswer (effect .progress))
+pub step-kept : (panel : Record) (reach index next-reach next-index : ℕ) (slots stored : List ℕ) (work : WriterWork) (answer : Answer) (access : WriterAccess) (slot word : ℕ) (effect : WriterEffect) → index ≡ 0 → Adds effect → AtWork (outcome (withWriter (counted (withReach panel reach) index) work) slots answer) → isUnderway answer ≡ true → access ≡ writerAccess (withReach panel reach) work → slot ≡ slotStored access → word ≡ accessRead slots access → stored ≡ slotsAfter slots access → effect ≡ writerAdvance (withReach panel reach) work slot word → next-reach ≡ reachAfter reach (effect .update) → next-index ≡ indexCounted (effect .update) → writerStep (outcome (withWriter (counted (withReach panel reach) index) work) slots answer) ≡ outcome (withWriter (counted (withReach panel next-reach) next-index) (effect .work)) stored (stepAnswer (effect .progress))
 unfolding withReach
 step-kept panel reach index next-reach next-index slots stored work answer access slot word effect none adds p e same-access same-slot same-word same-slots same-effect same-reach same-index =
     let held = withReach panel reach in

@@ -22,7 +22,7 @@ use Rattle.effects.specs.Counts.{uncounted, largestCounted}
 use Rattle.effects.specs.Effects.{WriterEffect, ends, updated}
 use Rattle.record.specs.Idle.{isWriterIdle}
 use Rattle.removal.specs.Removal.{isLast, removalAt, removalAnswered, removalSearched, removalEmpties, removalLowers, removalStageAdvance, removalAdvance}
-use Rattle.writer.specs.Step.{writerAdvance}
+use Rattle.writer.specs.Step.{workAdvance, writerAdvance}
 use Rattle.whole_operations.specs.WholeFacts.{indexUncounted, removes}
 use Rattle.whole_operations.proofs.ChangesLaws.{no-count}
 
@@ -59,11 +59,11 @@ module _ (panel held : Record) (index : ℕ) (same : held ≡ withCount (withRea
   unfolding ends updated indexUncounted removes isToRemove
   ends-so answer = record { same = same; kind = refl; none = λ h. absurd (false≢true h) }
 
-  lowers : Keeps (removalLowers held)
+  lowers : Keeps (removalLowers (held .k) (held .counts))
   unfolding removalLowers ends updated indexUncounted removes isToRemove withReach withCount withCounts countOf
   lowers =
       record {
-        same = ap (λ (r : Record). withReach r (largestCounted held)) same;
+        same = ap (λ (r : Record). withReach r (largestCounted (held .k) (held .counts))) same;
         kind = refl;
         none = λ h. absurd (false≢true h);
       }
@@ -87,22 +87,22 @@ module _ (panel held : Record) (index : ℕ) (same : held ≡ withCount (withRea
         ap (withCounts held) (sym again)
         ∙ ap (λ (r : Record). withCount r i (numbered (withNumbered (held .counts) i (countOf held i - 1)) i 0)) first
 
-    empties : (removal : Removal) (i : ℕ) → Keeps (removalEmpties held removal i)
+    empties : (removal : Removal) (i : ℕ) → Keeps (removalEmpties (held .reach) (held .counts) removal i)
     unfolding removalEmpties removalAt ends updated indexUncounted removes isToRemove isBefore
-    empties removal i = go (isLast held i)
+    empties removal i = go (isLast (held .reach) (held .counts) i)
       where
         go : (last : Bool) → Keeps (cond last (removalAt removal Lowering (Uncounted i)) (ends (Uncounted i) (removed (held .reach))))
         go true = record { same = uncounts i; kind = refl; none = λ h. absurd (false≢true h) }
         go false = record { same = uncounts i; kind = refl; none = λ h. absurd (false≢true h) }
 
-  by-stage : (removal : Removal) (stage : RemovalStage) (word : ℕ) → (isBefore stage ≡ true → index ≡ 0) → Keeps (removalStageAdvance held removal stage word)
+  by-stage : (removal : Removal) (stage : RemovalStage) (word : ℕ) → (isBefore stage ≡ true → index ≡ 0) → Keeps (removalStageAdvance (held .k) (held .reach) (held .counts) removal stage word)
   unfolding removalStageAdvance isBefore
   by-stage removal (Searching search) word none = searched (none refl) removal (searchAdvance (held .reach) (removal .point) search word)
   by-stage removal (RemovalStage·Found place) word none = empties (none refl) removal (place .index)
   by-stage removal Lowering word none = lowers
 
 pub step-keeps : (panel held : Record) (index : ℕ) (work : WriterWork) (slot word : ℕ) → Kept panel held index work → isWriterIdle work ≡ false → Kept panel (updated held (writerAdvance held work slot word .update)) (indexUncounted index (writerAdvance held work slot word .update)) (writerAdvance held work slot word .work)
-unfolding writerAdvance removes isToRemove removalAdvance
+unfolding workAdvance removes isToRemove removalAdvance
 step-keeps panel held index Idle slot word kept e = absurd (false≢true (sym e))
 step-keeps panel held index (Putting put) slot word kept e = absurd (false≢true (kept .kind))
 step-keeps panel held index (Changing change) slot word kept e = absurd (false≢true (kept .kind))

@@ -35,7 +35,7 @@ use Rattle.put.specs.Put.{putStageAccess, putAccess, putAt, putAnswered, putSea
 use Rattle.change.specs.Change.{commandEnds, changeStageAccess, changeAccess, changeAt, changeAnswered, changeSearched, changeStageAdvance, changeAdvance}
 use Rattle.removal.specs.Removal.{removalStageAccess, removalAccess, removalAt, removalAnswered, removalSearched, removalStageAdvance, removalAdvance}
 use Rattle.writer.specs.Starts.{startRefusal, startWriter}
-use Rattle.writer.specs.Step.{writerAccess, writerAdvance}
+use Rattle.writer.specs.Step.{workAccess, writerAccess, workAdvance, writerAdvance}
 use Rattle.writer.specs.WriterFacts.{Begun}
 use Rattle.writer.proofs.WriterLaws.{AtWork}
 use Rattle.whole_operations.specs.Whole.{untilEnded, writerStep}
@@ -69,7 +69,7 @@ answeredBy (Removing removal) answer = removalAnswered removal answer
 
 -- ---- parts 1 and 3 of a step of the search
 access-of : (panel : Record) (work : WriterWork) (search : Search) → isWriterIdle work ≡ false → writerAccess panel (searchingBy work search) ≡ Read (searchAccess (panel .m) (pointOfWork work) search)
-unfolding writerAccess searchingBy pointOfWork putAccess putStageAccess changeAccess changeStageAccess removalAccess removalStageAccess
+unfolding workAccess searchingBy pointOfWork putAccess putStageAccess changeAccess changeStageAccess removalAccess removalStageAccess
 access-of panel Idle search e = absurd (false≢true (sym e))
 access-of panel (Putting put) search e = refl
 access-of panel (Changing change) search e = refl
@@ -99,7 +99,7 @@ removal-effect removal search (Answered (Found place)) = refl
 removal-effect removal search (Answered Unknown) = refl
 
 advance-of : (panel : Record) (work : WriterWork) (search : Search) (slot word : ℕ) → isWriterIdle work ≡ false → writerAdvance panel (searchingBy work search) slot word ≡ effect-of work (searchAdvance (panel .reach) (pointOfWork work) search word)
-unfolding writerAdvance searchingBy pointOfWork putAdvance putStageAdvance changeAdvance changeStageAdvance removalAdvance removalStageAdvance
+unfolding workAdvance searchingBy pointOfWork putAdvance putStageAdvance changeAdvance changeStageAdvance removalAdvance removalStageAdvance
 advance-of panel Idle search slot word e = absurd (false≢true (sym e))
 advance-of panel (Putting put) search slot word e = put-effect put search (searchAdvance (panel .reach) (put .point) search word)
 advance-of panel (Changing change) search slot word e = change-effect change search (searchAdvance (panel .reach) (change .point) search word)

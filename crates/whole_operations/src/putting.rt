@@ -7,7 +7,7 @@ ghost use Rattle.record.specs.Idle.{isWriterIdle};
 ghost use Rattle.record.specs.Parts.{withReach, withWriter};
 ghost use Rattle.record_ranges.specs.Ranges.{inRange};
 ghost use Rattle.answers.specs.Answers.{stepAnswer, paperProgress, isUnderway, outcome};
-ghost use Rattle.effects.specs.Effects.{paperEffect, updated};
+ghost use Rattle.effects.specs.Effects.{paperEffect};
 ghost use Rattle.writer.specs.Step.{writerAccess, writerAdvance};
 ghost use Rattle.whole_operations.specs.Whole.{untilEnded, writerStep, wholePut, leaves, changesOf, paperWritten, changesIn, recordAfter};
 ghost use Rattle.whole_operations.specs.WholeFacts.{puts, indexCounted};
@@ -24,6 +24,7 @@ use effects::memory::perform;
 use effects::memory::slot_stored;
 use effects::update::Effect;
 use effects::update::Update;
+use effects::update::reach_after;
 use effects::update::underway;
 use put::put_access;
 use put::put_advance;
@@ -64,19 +65,6 @@ fn advance(panel: Record, reach: u32, work: WriterWork, slot: u32, word: u64) ->
     }
 }
 
-// The reach after an update.
-fn reach_after(panel: Record, reach: u32, update: Update) -> u32
-    ensures { λ r. ⌜ r ≡ updated (withReach panel reach) update .reach ⌝ }
-{
-    match update {
-        Update::Nothing => reach,
-        Update::Reach(stored) => stored,
-        Update::Counted(_) => reach,
-        Update::Uncounted(_) => reach,
-        Update::Answered(_) => reach,
-    }
-}
-
 // The index that one point more uses, or 0.
 fn index_counted(update: Update) -> u32
     ensures { λ r. ⌜ r ≡ indexCounted update ⌝ }
@@ -109,7 +97,7 @@ fn steps(panel: Record, slots: &mut [u64], begun: Effect, budget: u64) -> Ran
         work = next.work;
         progress = next.progress;
         let update = next.update;
-        reach = reach_after(panel, reach, update);
+        reach = reach_after(reach, update);
         index = index_counted(update);
         left = while_underway(left - 1, goes_on(progress));
     }
@@ -117,7 +105,7 @@ fn steps(panel: Record, slots: &mut [u64], begun: Effect, budget: u64) -> Ran
         changes: Changes {
             reach: reach,
             index: index,
-            count: one_more(panel, index),
+            count: one_more(panel.m, count_of(panel, index)),
         },
         progress: progress,
         work: work,

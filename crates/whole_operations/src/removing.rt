@@ -57,9 +57,11 @@ fn steps(panel: Record, slots: &mut [u64], begun: Effect, budget: u64) -> Ran
     let mut progress = begun.progress;
     let mut left = while_underway(budget, goes_on(progress));
     while 0 < left {
-        let made = writer_access(held, work);
+        let counts = held.counts;
+        let made = writer_access(held.m, held.k, held.reach, counts, work);
         let word = perform(slots, made);
-        let next = writer_advance(held, work, slot_stored(made), word);
+        let slot = slot_stored(made);
+        let next = writer_advance(held.k, held.reach, counts, work, slot, word);
         work = next.work;
         progress = next.progress;
         let update = next.update;

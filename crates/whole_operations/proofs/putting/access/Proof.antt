@@ -3,7 +3,7 @@ use mathlib.Core.Bool.{false≢true}
 use mathlib.Core.Path.{_∙_, sym, ap}
 use borrow.Author.Needs.{needs}
 use Rattle.record.specs.Parts.{withReach}
-use Rattle.writer.specs.Step.{writerAccess}
+use Rattle.writer.specs.Step.{workAccess}
 use Rattle.whole_operations.specs.WholeFacts.{puts}
 use Rattle.whole_operations.proofs.putting.access.Statement.{statement}
 use Rattle.whole_operations.proofs.putting.access.Tie as tie
@@ -24,11 +24,11 @@ enum-told-3 : tie.Need-enum-told-3
 enum-told-3 c = search needs
 
 returns : tie.Need-returns
-unfolding writerAccess withReach
+unfolding workAccess withReach
 returns c = rw (c .enum-told .given .1)
 
 returns-2 : tie.Need-returns-2
-unfolding writerAccess withReach
+unfolding workAccess withReach
 returns-2 c = rw (c .before .before .work .given .1) (c .put-access .ensures)
 
 returns-3 : tie.Need-returns-3

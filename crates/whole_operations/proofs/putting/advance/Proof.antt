@@ -3,7 +3,7 @@ use mathlib.Core.Bool.{false≢true}
 use mathlib.Core.Path.{_∙_, sym, ap}
 use borrow.Author.Needs.{needs}
 use Rattle.record.specs.Parts.{withReach}
-use Rattle.writer.specs.Step.{writerAdvance}
+use Rattle.writer.specs.Step.{workAdvance}
 use Rattle.whole_operations.specs.WholeFacts.{puts}
 use Rattle.whole_operations.proofs.putting.advance.Statement.{statement}
 use Rattle.whole_operations.proofs.putting.advance.Tie as tie
@@ -33,11 +33,11 @@ underway-requires-3 : tie.Need-underway-requires-3
 underway-requires-3 c κs = search needs
 
 returns : tie.Need-returns
-unfolding writerAdvance withReach
+unfolding workAdvance withReach
 returns c = rw (c .before .enum-told .given .1) (c .underway .ensures)
 
 returns-2 : tie.Need-returns-2
-unfolding writerAdvance withReach
+unfolding workAdvance withReach
 returns-2 c = rw (c .before .before .work .given .1) (c .put-advance .ensures)
 
 returns-3 : tie.Need-returns-3

@@ -8,7 +8,7 @@ use lib.ListN.{length}
 use borrow.Author.Needs.{needs}
 use Rattle.record.specs.Parts.{withReach, withNumbered, withCounts, withCount, withWriter, countOf}
 use Rattle.answers.specs.Answers.{stepAnswer, paperProgress, isUnderway, outcome}
-use Rattle.effects.specs.Counts.{counted}
+use Rattle.effects.specs.Counts.{oneMore, counted}
 use Rattle.effects.specs.Effects.{paperEffect}
 use Rattle.writer.proofs.WriterLaws.{slots-length, AtWork}
 use Rattle.whole_operations.specs.Whole.{writerStep, leaves}
@@ -98,19 +98,22 @@ loop-again c =
       adds .same-kind,
     )
 
+count-of-requires : tie.Need-count-of-requires Inv-loop μ-loop
+count-of-requires c κs = search needs
+
 one-more-requires : tie.Need-one-more-requires Inv-loop μ-loop
 one-more-requires c κs = search needs
 
 same-length : tie.Need-same-length Inv-loop μ-loop
-same-length c = c .before .before .loop .inv .0
+same-length c = c .before .before .before .loop .inv .0
 
 returns : tie.Need-returns Inv-loop μ-loop
 unfolding leaves counted withReach withWriter withCount withCounts countOf
 returns c =
-    let a = c .before .before .before .before .before .before .args in
-    let l = c .before .before .loop in (
-      ap (λ (count : ℕ). outcome (withWriter (withCount (withReach (a .panel) (l .reach)) (l .index) count) (l .work)) (l .slots) (stepAnswer (paperProgress (l .progress)))) (c .one-more .ensures)
-          ∙ arrives writerStep AtWork stays-at-work _ _ (l .left) _ (l .inv .1) (omega (arith, c .before .loop-test)),
+    let a = c .before .before .before .before .before .before .before .args in
+    let l = c .before .before .before .loop in (
+      ap (λ (count : ℕ). outcome (withWriter (withCount (withReach (a .panel) (l .reach)) (l .index) count) (l .work)) (l .slots) (stepAnswer (paperProgress (l .progress)))) (c .one-more .ensures ∙ ap (oneMore (a .panel .m)) (c .before .count-of .ensures))
+          ∙ arrives writerStep AtWork stays-at-work _ _ (l .left) _ (l .inv .1) (omega (arith, c .before .before .loop-test)),
       l .inv .1 .holds .busy,
     )
 
@@ -134,6 +137,7 @@ steps-spec =
     while-underway-requires-2
     loop-less
     loop-again
+    count-of-requires
     one-more-requires
     same-length
     returns)

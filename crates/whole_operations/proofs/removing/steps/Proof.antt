@@ -70,7 +70,7 @@ index-uncounted-requires : tie.Need-index-uncounted-requires Inv-loop μ-loop
 index-uncounted-requires c κs = search needs
 
 sub-while-underway : tie.Need-sub-while-underway Inv-loop μ-loop
-sub-while-underway c = omega (arith, c .before .before .before .before .before .before .before .before .before .loop-test)
+sub-while-underway c = omega (arith, c .before .before .before .before .before .before .before .before .before .before .loop-test)
 
 goes-on-requires-2 : tie.Need-goes-on-requires-2 Inv-loop μ-loop
 goes-on-requires-2 c κs = search needs
@@ -79,14 +79,14 @@ while-underway-requires-2 : tie.Need-while-underway-requires-2 Inv-loop μ-loop
 while-underway-requires-2 c κs = search needs
 
 loop-less : tie.Need-loop-less Inv-loop μ-loop
-loop-less c = fewer (c .before .before .before .before .before .before .before .before .before .before .before .before .loop .left) _ (c .before .goes-on2 .result) (omega (arith, c .before .before .before .before .before .before .before .before .before .before .before .loop-test)) (c .while-underway2 .ensures)
+loop-less c = fewer (c .before .before .before .before .before .before .before .before .before .before .before .before .before .loop .left) _ (c .before .goes-on2 .result) (omega (arith, c .before .before .before .before .before .before .before .before .before .before .before .before .loop-test)) (c .while-underway2 .ensures)
 
 loop-again : tie.Need-loop-again Inv-loop μ-loop
 unfolding updated withWriter
 loop-again c =
-    let panel = c .before .before .before .before .before .before .before .before .before .before .before .before .before .before .before .before .args .panel in
-    let l = c .before .before .before .before .before .before .before .before .before .before .before .before .loop in
-    let more = c .before .before .before .before .before .before .before .before .before .before .before .loop-test in
+    let panel = c .before .before .before .before .before .before .before .before .before .before .before .before .before .before .before .before .before .args .panel in
+    let l = c .before .before .before .before .before .before .before .before .before .before .before .before .before .loop in
+    let more = c .before .before .before .before .before .before .before .before .before .before .before .before .loop-test in
     let performed = c .before .before .before .before .before .before .before .before .perform .ensures in
     let advances = c .before .before .before .before .writer-advance in
     let goes = l .inv .1 .goes (omega arith) in

@@ -66,6 +66,11 @@ alterationEnds (Commanded command) point answer =
 unfoldable pub commandEnds : Change → CommandAnswer → Update
 commandEnds change answer = alterationEnds (change .alteration) (change .point) answer
 
+-- the station whose command the change is; 0 where it is no command's
+abbrev pub commandingStation : Alteration → ℕ
+commandingStation (Given masks) = 0
+commandingStation (Commanded command) = command .station
+
 -- the change goes on at this stage
 unfoldable pub changeAt : Change → ChangeStage → WriterEffect
 changeAt change stage = goesOn (Changing (record { point = change .point; alteration = change .alteration; stage = stage }))

@@ -2,7 +2,7 @@
 // and its answer in the step in which it ends.
 ghost use mathlib.Core.Path.{_≡_};
 ghost use Rattle.effects.specs.Effects.{paperEffect};
-ghost use Rattle.change.specs.Change.{actionMasks, masksOf, newValue, changeAccess, commandEnds, changeAt, changeSearched, changeAnswered, changeStores, changeAdvance};
+ghost use Rattle.change.specs.Change.{actionMasks, masksOf, newValue, changeAccess, commandEnds, commandingStation, changeAt, changeSearched, changeAnswered, changeStores, changeAdvance};
 use answers::Ending;
 use effects::memory::WriterAccess;
 use effects::memory::store_word;
@@ -155,5 +155,15 @@ fn command_ends(change: Change, answer: CommandAnswer) -> Update
                 last: last,
             })
         }
+    }
+}
+
+// The station whose command the change is; 0 where it is no command's.
+pub fn commanding_station(alteration: Alteration) -> u32
+    ensures { λ r. ⌜ r ≡ commandingStation alteration ⌝ }
+{
+    match alteration {
+        Alteration::Given(_) => 0,
+        Alteration::Commanded(command) => command.station,
     }
 }

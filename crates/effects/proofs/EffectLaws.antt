@@ -4,12 +4,12 @@ use Prim.Native.Nat.{ℕ, _+_, _*_, _-_, _≤_, min}
 use mathlib.Core.Path.{_≡_, refl, sym, ap, _∙_}
 use mathlib.Core.Bool.{Bool, true, false, cond, not, false≢true}
 use native.Mathlib.Omega.{arith}
-use borrow.Author.Tests.{leb-true, ltb-true, ltb-false}
-use lib.Dec.{ltb, leb}
+use borrow.Author.Tests.{eqb-true, leb-true, ltb-true, ltb-false}
+use lib.Dec.{eqb, ltb, leb}
 use lib.ListN.{getD, set}
 use lib.Seq.{set-getD}
-use Rattle.conditions.specs.Conditions.{within}
-use Rattle.conditions.proofs.ConditionLaws.{within-low, within-high}
+use Rattle.conditions.specs.Conditions.{both, within}
+use Rattle.conditions.proofs.ConditionLaws.{both-left, both-right, within-low, within-high}
 use Rattle.record.specs.declared.Record.{Record}
 use Rattle.record.specs.declared.Search.{Search}
 use Rattle.record.specs.declared.Search.the-variants.{Unread, Probing}
@@ -36,24 +36,25 @@ use Rattle.effects.specs.Counts.{oneMore, oneLess, counted, uncounted}
 use Rattle.effects.specs.Effects.{WriterEffect, updated, reachAfter, countPlace, countAfter, stationAfter}
 use Rattle.record.specs.Idle.{isWriterIdle}
 
--- what replaces a part of the record is in range
-unfoldable pub updateInRange : ℕ → Update → Bool
-updateInRange k Nothing = true
-updateInRange k (Reach reach) = leb reach k
-updateInRange k (Counted index) = within 1 index k
-updateInRange k (Uncounted index) = within 1 index k
-updateInRange k (Answered command) = stationInRange (command .last)
+-- what replaces a part of the record is in range, and a command's answer is stored at this place of the stations
+unfoldable pub updateInRange : ℕ → ℕ → Update → Bool
+updateInRange k place Nothing = true
+updateInRange k place (Reach reach) = leb reach k
+updateInRange k place (Counted index) = within 1 index k
+updateInRange k place (Uncounted index) = within 1 index k
+updateInRange k place (Answered command) =
+    both (stationInRange (command .last)) (both (within 1 (command .station) 32) (eqb place (numberedPlace 32 (command .station))))
 
-pub updated-in-range : (lent : ℕ) (panel : Record) (update : Update) → inRange lent panel ≡ true → updateInRange (panel .k) update ≡ true → inRange lent (updated panel update) ≡ true
+pub updated-in-range : (lent place : ℕ) (panel : Record) (update : Update) → inRange lent panel ≡ true → updateInRange (panel .k) place update ≡ true → inRange lent (updated panel update) ≡ true
 unfolding updated updateInRange counted uncounted
-updated-in-range lent panel Nothing h e = h
-updated-in-range lent panel (Reach reach) h e = with-reach-in-range lent panel h reach (leb-true reach (panel .k) e)
-updated-in-range lent panel (Counted index) h e =
+updated-in-range lent place panel Nothing h e = h
+updated-in-range lent place panel (Reach reach) h e = with-reach-in-range lent panel h reach (leb-true reach (panel .k) e)
+updated-in-range lent place panel (Counted index) h e =
     with-count-in-range lent panel h index (min (countOf panel index + 1) (panel .m)) (omega arith)
-updated-in-range lent panel (Uncounted index) h e =
+updated-in-range lent place panel (Uncounted index) h e =
     with-count-in-range lent panel h index (countOf panel index - 1)
     (omega (arith, count-in-range lent panel h index (within-high 1 index (panel .k) e)))
-updated-in-range lent panel (Answered command) h e = with-station-in-range lent panel h (command .station) (command .last) e
+updated-in-range lent place panel (Answered command) h e = with-station-in-range lent panel h (command .station) (command .last) (both-left (stationInRange (command .last)) _ e)
 
 -- the reach after an access
 unfoldable pub reachStored : ℕ → WriterAccess → ℕ
@@ -82,16 +83,8 @@ update-leaves panel (Counted index) = record { m-stays = refl; k-stays = refl; r
 update-leaves panel (Uncounted index) = record { m-stays = refl; k-stays = refl; readers-stay = refl; reach-after = refl }
 update-leaves panel (Answered command) = record { m-stays = refl; k-stays = refl; readers-stay = refl; reach-after = refl }
 
--- an answer to a station's command is stored at this place
-abbrev pub AnswersAt : ℕ → Update → Type 0
-AnswersAt place Nothing = Unit {0}
-AnswersAt place (Reach reach) = Unit {0}
-AnswersAt place (Counted index) = Unit {0}
-AnswersAt place (Uncounted index) = Unit {0}
-AnswersAt place (Answered command) = (within 1 (command .station) 32 ≡ true) × (place ≡ numberedPlace 32 (command .station))
-
 -- an update stores the reach, a count and a station's last command, each at most with another value than before
-module _ (panel : Record) (place : ℕ) (high : panel .k ≤ 64) where
+module _ (panel : Record) (place : ℕ) where
   abbrev inParts : Update → Record
   inParts update =
       withStations
@@ -105,24 +98,32 @@ module _ (panel : Record) (place : ℕ) (high : panel .k ≤ 64) where
   same-stations = set-getD (panel .stations) place unheardStation
 
   -- the count of an index is changed at its place
-  recounted : (index : ℕ) (after : ℕ → ℕ) → within 1 index (panel .k) ≡ true → withNumbered (panel .counts) index (after (numbered (panel .counts) index 0)) ≡ set (panel .counts) (numberedPlace 64 index) (after (getD (panel .counts) (numberedPlace 64 index) 0))
-  recounted index after h =
+  recounted : (index : ℕ) (after : ℕ → ℕ) → panel .k ≤ 64 → within 1 index (panel .k) ≡ true → withNumbered (panel .counts) index (after (numbered (panel .counts) index 0)) ≡ set (panel .counts) (numberedPlace 64 index) (after (getD (panel .counts) (numberedPlace 64 index) 0))
+  recounted index after high h =
       let low = within-low 1 index (panel .k) h in
       let under : index ≤ 64 = omega (arith, within-high 1 index (panel .k) h) in
       replaced-in-place (panel .counts) 64 index low under (after (numbered (panel .counts) index 0))
       ∙ ap (λ (count : ℕ). set (panel .counts) (numberedPlace 64 index) (after count)) (numbered-in-place (panel .counts) 64 index low under 0)
 
-  pub updated-in-parts : (update : Update) → updateInRange (panel .k) update ≡ true → AnswersAt place update → updated panel update ≡ inParts update
+  -- without an update each is stored again as it was
+  pub same-in-parts : inParts Nothing ≡ panel
+  unfolding reachAfter countPlace countAfter stationAfter withReach withCounts withStations
+  same-in-parts = λ j. withStations (withCounts panel (same-counts 0 j)) (same-stations j)
+
+  pub updated-in-parts : (update : Update) → panel .k ≤ 64 → updateInRange (panel .k) place update ≡ true → inParts update ≡ updated panel update
   unfolding updated updateInRange counted uncounted reachAfter countPlace countAfter stationAfter withReach withCount withCounts withStation withStations countOf
-  updated-in-parts Nothing h at = sym (λ j. withStations (withCounts panel (same-counts 0 j)) (same-stations j))
-  updated-in-parts (Reach reach) h at = sym (λ j. withStations (withCounts (withReach panel reach) (same-counts 0 j)) (same-stations j))
-  updated-in-parts (Counted index) h at = λ j. withStations (withCounts panel (recounted index (oneMore (panel .m)) h j)) (sym same-stations j)
-  updated-in-parts (Uncounted index) h at = λ j. withStations (withCounts panel (recounted index oneLess h j)) (sym same-stations j)
-  updated-in-parts (Answered command) h at =
+  updated-in-parts Nothing high h = same-in-parts
+  updated-in-parts (Reach reach) high h = λ j. withStations (withCounts (withReach panel reach) (same-counts 0 j)) (same-stations j)
+  updated-in-parts (Counted index) high h = λ j. withStations (withCounts panel (sym (recounted index (oneMore (panel .m)) high h) j)) (same-stations j)
+  updated-in-parts (Uncounted index) high h = λ j. withStations (withCounts panel (sym (recounted index oneLess high h) j)) (same-stations j)
+  updated-in-parts (Answered command) high h =
+      let own = both-right (stationInRange (command .last)) (both (within 1 (command .station) 32) (eqb place (numberedPlace 32 (command .station)))) h in
+      let inside = both-left (within 1 (command .station) 32) (eqb place (numberedPlace 32 (command .station))) own in
+      let at = eqb-true place (numberedPlace 32 (command .station)) (both-right (within 1 (command .station) 32) (eqb place (numberedPlace 32 (command .station))) own) in
       let stored =
-      replaced-in-place (panel .stations) 32 (command .station) (within-low 1 (command .station) 32 (at .0)) (within-high 1 (command .station) 32 (at .0)) (command .last)
-      ∙ ap (λ (p : ℕ). set (panel .stations) p (command .last)) (sym (at .1)) in
-      λ j. withStations (withCounts panel (sym (same-counts 0) j)) (stored j)
+      ap (λ (p : ℕ). set (panel .stations) p (command .last)) at
+      ∙ sym (replaced-in-place (panel .stations) 32 (command .station) (within-low 1 (command .station) 32 inside) (within-high 1 (command .station) 32 inside) (command .last)) in
+      λ j. withStations (withCounts panel (same-counts 0 j)) (stored j)
 
 -- a step more where an index exceeds the reach: the one that stores the reach
 unfoldable pub raising : ℕ → ℕ → ℕ
@@ -185,9 +186,9 @@ writerLeft k reach (Changing change) = changeLeft k (change .stage)
 writerLeft k reach (Removing removal) = removalLeft k (removal .stage)
 
 -- what a step comes to: work and update in range, and a step less to go
-pub record OneEffect (k reach left : ℕ) (effect : WriterEffect) : Type 0 where
+pub record OneEffect (k reach place left : ℕ) (effect : WriterEffect) : Type 0 where
   pub work-fits : writerInRange k (effect .work) ≡ true
-  pub update-fits : updateInRange k (effect .update) ≡ true
+  pub update-fits : updateInRange k place (effect .update) ≡ true
   -- "A step that ends an operation .. leaves that party idle", and only such a step does
   pub ended : isUnderway (stepAnswer (effect .progress)) ≡ not (isWriterIdle (effect .work))
   pub less : writerLeft k (reachAfter reach (effect .update)) (effect .work) + 1 ≤ left

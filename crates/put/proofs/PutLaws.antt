@@ -36,33 +36,33 @@ unfolding putSearchLeft searchLeft
 search-left k reach Unread = omega arith
 search-left k reach (Probing probe) = omega arith
 
-module _ (k reach : ℕ) (put : Put) (low : 1 ≤ k) (valid : validPoint (put .point) ≡ true) where
+module _ (k reach place : ℕ) (put : Put) (low : 1 ≤ k) (valid : validPoint (put .point) ≡ true) where
   -- the put goes on at a stage in range with as many steps left
-  at-stage : (left : ℕ) (stage : PutStage) → putStageInRange k stage ≡ true → putLeft k reach stage + 1 ≤ left → OneEffect k reach left (putAt put stage)
+  at-stage : (left : ℕ) (stage : PutStage) → putStageInRange k stage ≡ true → putLeft k reach stage + 1 ≤ left → OneEffect k reach place left (putAt put stage)
   unfolding putAt goesOn writerInRange putInRange updateInRange reachAfter writerLeft
   at-stage left stage h less =
       record { work-fits = both-true (validPoint (put .point)) (putStageInRange k stage) valid h; update-fits = refl; ended = refl; less = less }
 
-  searched : (left : ℕ) (after : Searched) → OneStep k left after → OneEffect k reach (left + (k + 1 + raising reach k)) (putSearched put after)
+  searched : (left : ℕ) (after : Searched) → OneStep k left after → OneEffect k reach place (left + (k + 1 + raising reach k)) (putSearched put after)
   unfolding putSearched putAnswered putStageInRange putLeft searchedInRange searchedLeft answerInRange
   searched left (Going search) s = at-stage _ (Searching search) (s .fits) (omega (arith, search-left k reach search, s .less))
   searched left (Answered (SearchAnswer·Found place)) s = at-stage _ (PutStage·Found place) (s .fits) (omega (arith, s .less))
   searched left (Answered Unknown) s = at-stage _ (Scanning 1) (is-within 1 1 k (omega arith) low) (omega (arith, s .less))
 
-  scanned : (index word : ℕ) → within 1 index k ≡ true → OneEffect k reach (k - index + 1 + (1 + raising reach k)) (putScanned k put index word)
+  scanned : (index word : ℕ) → within 1 index k ≡ true → OneEffect k reach place (k - index + 1 + (1 + raising reach k)) (putScanned k put index word)
   unfolding putScanned ends putStageInRange putLeft writerInRange updateInRange reachAfter writerLeft
   scanned index word h = go (eqb word 0) (ltb index k) refl
     where
       high : index ≤ k
       high = within-high 1 index k h
 
-      go : (empty below : Bool) → ltb index k ≡ below → OneEffect k reach (k - index + 1 + (1 + raising reach k)) (cond empty (putAt put (Chosen index)) (cond below (putAt put (Scanning (index + 1))) (ends Nothing (endedWith 6))))
+      go : (empty below : Bool) → ltb index k ≡ below → OneEffect k reach place (k - index + 1 + (1 + raising reach k)) (cond empty (putAt put (Chosen index)) (cond below (putAt put (Scanning (index + 1))) (ends Nothing (endedWith 6))))
       go true below e = at-stage _ (Chosen index) h (omega (arith, raising-grows reach index k high))
       go false true e =
           let less = ltb-true index k e in at-stage _ (Scanning (index + 1)) (is-within 1 (index + 1) k (omega arith) (omega arith)) (omega arith)
       go false false e = record { work-fits = refl; update-fits = refl; ended = refl; less = omega arith }
 
-  takes : (slot index : ℕ) → within 1 index k ≡ true → put .stage ≡ Chosen index → OneEffect k reach (1 + raising reach index) (putTakes reach slot put index)
+  takes : (slot index : ℕ) → within 1 index k ≡ true → put .stage ≡ Chosen index → OneEffect k reach place (1 + raising reach index) (putTakes reach slot put index)
   unfolding exceeds putTakes ends putInRange putStageInRange putLeft writerInRange updateInRange reachAfter writerLeft raising
   takes slot index h e = go (ltb reach index) refl
     where
@@ -72,7 +72,7 @@ module _ (k reach : ℕ) (put : Put) (low : 1 ≤ k) (valid : validPoint (put .p
       stage-fits : putStageInRange k (put .stage) ≡ true
       stage-fits = ap (putStageInRange k) e ∙ h
 
-      go : (above : Bool) → ltb reach index ≡ above → OneEffect k reach (1 + cond above 1 0) (cond above (record { work = Putting put; update = Reach index; progress = continues }) (ends (Counted index) (placed slot index)))
+      go : (above : Bool) → ltb reach index ≡ above → OneEffect k reach place (1 + cond above 1 0) (cond above (record { work = Putting put; update = Reach index; progress = continues }) (ends (Counted index) (placed slot index)))
       go true f =
           record {
             work-fits = both-true (validPoint (put .point)) (putStageInRange k (put .stage)) valid stage-fits;
@@ -82,7 +82,7 @@ module _ (k reach : ℕ) (put : Put) (low : 1 ≤ k) (valid : validPoint (put .p
           }
       go false f = record { work-fits = refl; update-fits = h; ended = refl; less = omega arith }
 
-  at-any-stage : (slot word : ℕ) (stage : PutStage) → reach ≤ k → put .stage ≡ stage → putStageInRange k stage ≡ true → OneEffect k reach (putLeft k reach stage) (putStageAdvance k reach slot put stage word)
+  at-any-stage : (slot word : ℕ) (stage : PutStage) → reach ≤ k → put .stage ≡ stage → putStageInRange k stage ≡ true → OneEffect k reach place (putLeft k reach stage) (putStageAdvance k reach slot put stage word)
   unfolding putStageAdvance putStageInRange putLeft putSearchLeft searchAdvance ends writerInRange updateInRange reachAfter writerLeft
   at-any-stage slot word (Searching Unread) r e h =
       let one = searched (reach + 1) _ (first-step k reach r) in
@@ -92,11 +92,11 @@ module _ (k reach : ℕ) (put : Put) (low : 1 ≤ k) (valid : validPoint (put .p
   at-any-stage slot word (PutStage·Found place) r e h = record { work-fits = refl; update-fits = refl; ended = refl; less = omega arith }
   at-any-stage slot word (Chosen index) r e h = takes slot index h e
 
-pub put-effect : (k reach slot : ℕ) (put : Put) (word : ℕ) → 1 ≤ k → reach ≤ k → putInRange k put ≡ true → OneEffect k reach (writerLeft k reach (Putting put)) (putAdvance k reach slot put word)
+pub put-effect : (k reach place slot : ℕ) (put : Put) (word : ℕ) → 1 ≤ k → reach ≤ k → putInRange k put ≡ true → OneEffect k reach place (writerLeft k reach (Putting put)) (putAdvance k reach slot put word)
 unfolding putAdvance putInRange writerLeft
-put-effect k reach slot put word low r h =
+put-effect k reach place slot put word low r h =
     let valid = both-left (validPoint (put .point)) (putStageInRange k (put .stage)) h in
-    at-any-stage k reach put low valid slot word (put .stage) r refl (both-right (validPoint (put .point)) (putStageInRange k (put .stage)) h)
+    at-any-stage k reach place put low valid slot word (put .stage) r refl (both-right (validPoint (put .point)) (putStageInRange k (put .stage)) h)
 
 -- the step whose access stores the reach, and no other, updates the reach
 module _ (m k reach slot : ℕ) (put : Put) (word : ℕ) where

@@ -1,6 +1,6 @@
 -- Laws of what a step of the writer comes to: an update in range keeps a record in range and leaves the rest of it; and how many steps an operation has
 -- left, at most, by which the bounds 2k + 2, k + 2 and k + 3 are shown.
-use Prim.Native.Nat.{ℕ, _+_, _*_, _-_, _≤_, min}
+use Prim.Native.Nat.{ℕ, _+_, _*_, _-_, _≤_, _<_, min}
 use mathlib.Core.Path.{_≡_, refl, sym, ap, _∙_}
 use mathlib.Core.Bool.{Bool, true, false, cond, not, false≢true}
 use native.Mathlib.Omega.{arith}
@@ -22,7 +22,7 @@ use Rattle.record.specs.declared.RemovalStage.the-variants.{Searching as Remova
 use Rattle.record.specs.declared.WriterWork.{WriterWork}
 use Rattle.record.specs.declared.WriterWork.the-variants.{Idle, Putting, Changing, Removing}
 use Rattle.record.specs.Parts.{unheardStation, numbered, withNumbered, numberedPlace, withReach, withCount, withStation, countOf, withCounts, withStations}
-use Rattle.record.proofs.Numbered.{numbered-in-place, replaced-in-place}
+use Rattle.record.proofs.Numbered.{place-below, numbered-in-place, replaced-in-place}
 use Rattle.record_ranges.specs.Ranges.{stationInRange, inRange}
 use Rattle.work_ranges.specs.WorkRanges.{writerInRange}
 use Rattle.record_ranges.proofs.Laws.{with-reach-in-range, with-count-in-range, with-station-in-range, count-in-range}
@@ -82,6 +82,15 @@ update-leaves panel (Reach reach) = record { m-stays = refl; k-stays = refl; rea
 update-leaves panel (Counted index) = record { m-stays = refl; k-stays = refl; readers-stay = refl; reach-after = refl }
 update-leaves panel (Uncounted index) = record { m-stays = refl; k-stays = refl; readers-stay = refl; reach-after = refl }
 update-leaves panel (Answered command) = record { m-stays = refl; k-stays = refl; readers-stay = refl; reach-after = refl }
+
+-- the place of the count is one of the counts
+pub count-place-below : (update : Update) → countPlace update < 64
+unfolding countPlace
+count-place-below Nothing = omega arith
+count-place-below (Reach reach) = omega arith
+count-place-below (Counted index) = place-below 64 index (omega arith)
+count-place-below (Uncounted index) = place-below 64 index (omega arith)
+count-place-below (Answered command) = omega arith
 
 -- an update stores the reach, a count and a station's last command, each at most with another value than before
 module _ (panel : Record) (place : ℕ) where

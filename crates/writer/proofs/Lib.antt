@@ -1,2 +1,4 @@
 pub mod WriterLaws
 pub mod WriterAgreement
+pub mod WorkLaws
+pub mod StepInPlace

@@ -21,7 +21,8 @@ use Rattle.record_ranges.specs.Ranges.{inRange}
 use Rattle.record_ranges.proofs.Laws.{fields, sizes-in-range, with-writer-in-range}
 use Rattle.writer.specs.Starts.{startRefusal, startWriter, startPut, startRemoval}
 use Rattle.writer.specs.WriterFacts.{Does, reads, stores-reach, stores-slot, Keeps, Begun}
-use Rattle.writer.specs.Step.{workAccess, writerAccess, workAdvance, writerAdvance, stepRefusal, afterStep, writerRuns, stepWriter}
+use Rattle.writer.specs.Step.{workAccess, writerAccess, workAdvance, writerAdvance, workRefusal, stepRefusal, afterStep, writerRuns, stepWriter}
+use Rattle.writer.specs.Work.{stationAt}
 use Rattle.answers.specs.Answers.{started, isUnderway, Outcome, outcome, unlessRefused}
 use Rattle.answers.proofs.AnswerLaws.{unless}
 use Rattle.search.proofs.SearchLaws.{slotRead}
@@ -30,17 +31,17 @@ use Rattle.effects.specs.declared.memory.WriterAccess.the-variants.{Read, Store
 use Rattle.effects.specs.Memory.{slotStored, accessRead, slotsAfter}
 use Rattle.effects.specs.Effects.{WriterEffect, goesOn, updated, reachAfter}
 use Rattle.record.specs.Idle.{isWriterIdle}
-use Rattle.effects.proofs.EffectLaws.{slotNamed, updated-in-range, reachStored, Updated, update-leaves, writerLeft, OneEffect}
+use Rattle.effects.proofs.EffectLaws.{slotNamed, updateInRange, updated-in-range, reachStored, Updated, update-leaves, writerLeft, OneEffect}
 use Rattle.put.proofs.PutLaws.{put-effect, put-reach, put-inside}
 use Rattle.change.proofs.ChangeLaws.{change-effect, change-reach, change-inside}
 use Rattle.removal.proofs.RemovalLaws.{removal-effect, removal-reach, removal-inside}
 
-writer-effect : (panel : Record) (work : WriterWork) (slot word : ℕ) → 1 ≤ panel .k → panel .reach ≤ panel .k → writerInRange (panel .k) work ≡ true → isWriterIdle work ≡ false → OneEffect (panel .k) (panel .reach) (writerLeft (panel .k) (panel .reach) work) (writerAdvance panel work slot word)
-unfolding workAdvance writerInRange
+writer-effect : (panel : Record) (work : WriterWork) (slot word : ℕ) → 1 ≤ panel .k → panel .reach ≤ panel .k → writerInRange (panel .k) work ≡ true → isWriterIdle work ≡ false → OneEffect (panel .k) (panel .reach) (stationAt work) (writerLeft (panel .k) (panel .reach) work) (writerAdvance panel work slot word)
+unfolding workAdvance writerInRange stationAt
 writer-effect panel Idle slot word low r h e = absurd (false≢true (sym e))
-writer-effect panel (Putting put) slot word low r h e = put-effect (panel .k) (panel .reach) slot put word low r h
+writer-effect panel (Putting put) slot word low r h e = put-effect (panel .k) (panel .reach) _ slot put word low r h
 writer-effect panel (Changing change) slot word low r h e = change-effect (panel .k) (panel .reach) change word r h
-writer-effect panel (Removing removal) slot word low r h e = removal-effect (panel .k) (panel .reach) (panel .counts) removal word r h
+writer-effect panel (Removing removal) slot word low r h e = removal-effect (panel .k) (panel .reach) _ (panel .counts) removal word r h
 
 writer-reach : (panel : Record) (work : WriterWork) (slot word : ℕ) → reachAfter (panel .reach) (writerAdvance panel work slot word .update) ≡ reachStored (panel .reach) (writerAccess panel work)
 unfolding workAdvance workAccess reachAfter reachStored goesOn
@@ -65,14 +66,19 @@ module _ (panel : Record) (slots : List ℕ) (fits : inRange (length slots) pane
 
   -- no call is refused
   pub allowed : stepWriter panel slots ≡ writerRuns panel slots (panel .writer .work)
-  unfolding stepWriter stepRefusal refuseIf unlessRefused
+  unfolding stepWriter stepRefusal workRefusal refuseIf unlessRefused
   allowed = rw (fits, works)
 
-  one : OneEffect (panel .k) (panel .reach) (writerLeft (panel .k) (panel .reach) (panel .writer .work)) effect
+  one : OneEffect (panel .k) (panel .reach) (stationAt (panel .writer .work)) (writerLeft (panel .k) (panel .reach) (panel .writer .work)) effect
   unfolding effect access
   one =
       writer-effect panel (panel .writer .work) _ _ (sizes-in-range (length slots) panel fits .k-low) (fields (length slots) panel fits .reach-fits)
       (fields (length slots) panel fits .writer-fits) works
+
+  -- what the step stores in the record is in range, and each part stands at its place
+  pub run-update-fits : updateInRange (panel .k) (stationAt (panel .writer .work)) (writerAdvance panel (panel .writer .work) (slotStored (writerAccess panel (panel .writer .work))) (accessRead slots (writerAccess panel (panel .writer .work))) .update) ≡ true
+  unfolding effect access
+  run-update-fits = one .update-fits
 
   leaves : Updated panel (effect .update)
   leaves = update-leaves panel (effect .update)
@@ -81,7 +87,7 @@ module _ (panel : Record) (slots : List ℕ) (fits : inRange (length slots) pane
   unfolding writerRuns afterStep effect access
   run-in-range =
       transport (λ j. inRange (sym (slots-length slots access) j) (withWriter (updated panel (effect .update)) (effect .work)) ≡ true)
-      (with-writer-in-range (length slots) (updated panel (effect .update)) (updated-in-range (length slots) panel (effect .update) fits (one .update-fits)) (effect .work)
+      (with-writer-in-range (length slots) (updated panel (effect .update)) (updated-in-range (length slots) (stationAt (panel .writer .work)) panel (effect .update) fits (one .update-fits)) (effect .work)
       (ap (λ (k : ℕ). writerInRange k (effect .work)) (leaves .k-stays) ∙ one .work-fits))
 
   -- "A step that ends an operation .. leaves that party idle", and only such a step does
@@ -155,8 +161,8 @@ module _ (panel : Record) (slots : List ℕ) where
         readers-stay = leaves .readers-stay;
       })
 
-  at-work : stepRefusal (length slots) panel ≡ 0 → (inRange (length slots) panel ≡ true) × (isWriterIdle (panel .writer .work) ≡ false)
-  unfolding stepRefusal
+  pub at-work : stepRefusal (length slots) panel ≡ 0 → (inRange (length slots) panel ≡ true) × (isWriterIdle (panel .writer .work) ≡ false)
+  unfolding stepRefusal workRefusal
   at-work e =
       let after-1 = not-refused (not (inRange (length slots) panel)) 1 _ (omega arith) e in
       let after-5 = not-refused (isWriterIdle (panel .writer .work)) 5 _ (omega arith) (after-1 .1) in

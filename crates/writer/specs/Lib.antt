@@ -1,3 +1,4 @@
 pub mod Step
+pub mod Work
 pub mod Starts
 pub mod WriterFacts

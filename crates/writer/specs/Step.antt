@@ -1,6 +1,6 @@
 -- Document 01, "Steps": the writer's step.
 use Prim.Native.Nat.{ℕ}
-use mathlib.Core.Bool.{not}
+use mathlib.Core.Bool.{Bool, not}
 use mathlib.Core.List.{List}
 use lib.ListN.{length}
 use Rattle.refusal.specs.Judging.{refuseIf}
@@ -42,9 +42,13 @@ workAdvance k reach counts (Removing removal) slot word = removalAdvance k reach
 abbrev pub writerAdvance : Record → WriterWork → ℕ → ℕ → WriterEffect
 writerAdvance panel work slot word = workAdvance (panel .k) (panel .reach) (panel .counts) work slot word
 
+-- "writer's step 1, 5", of a writer with this work, by whether the record is in range
+unfoldable pub workRefusal : Bool → WriterWork → ℕ
+workRefusal fits work = refuseIf (not fits) 1 (refuseIf (isWriterIdle work) 5 0)
+
 -- "writer's step 1, 5"
 unfoldable pub stepRefusal : ℕ → Record → ℕ
-stepRefusal lent panel = refuseIf (not (inRange lent panel)) 1 (refuseIf (isWriterIdle (panel .writer .work)) 5 0)
+stepRefusal lent panel = workRefusal (inRange lent panel) (panel .writer .work)
 
 -- the record with its update and the writer's new work, and the answer
 unfoldable pub afterStep : Record → List ℕ → WriterEffect → Outcome

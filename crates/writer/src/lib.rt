@@ -3,11 +3,15 @@
 // what follows from the word (pure).
 mod starts;
 mod step;
+mod work;
 
 pub use starts::judge_start;
 pub use starts::start_change;
 pub use starts::start_put;
 pub use starts::start_removal;
 pub use step::step_writer;
-pub use step::writer_access;
-pub use step::writer_advance;
+pub use work::SteppedWriter;
+pub use work::station_at;
+pub use work::step_work;
+pub use work::writer_access;
+pub use work::writer_advance;

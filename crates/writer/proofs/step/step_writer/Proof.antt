@@ -1,58 +1,78 @@
--- `writer::step::step_writer` meets its contract, by the verdict.
-use Prim.Native.Nat.{ℕ}
-use mathlib.Core.Path.{_∙_, sym, ap}
-use borrow.Author.Needs.{needs}
+-- `writer::step::step_writer` meets its contract: what the step hands back is stored in the record.
+use Prim.Native.Nat.{_<_}
+use mathlib.Core.Path.{_∙_, ap}
 use denote.Ref.{now}
-use Rattle.refusal.specs.Refusals.{paperJudged}
-use Rattle.answers.specs.Answers.{unlessRefused}
-use Rattle.answers.proofs.AnswerLaws.{refused-outcome, allowed-outcome}
-use Rattle.writer.specs.Step.{writerRuns, stepWriter}
+use lib.ListN.{getD}
+use borrow.Author.Needs.{needs}
+use Rattle.record.specs.Parts.{unheardStation, withReach, withCounts, withStations, withWriter}
+use Rattle.writer.specs.Work.{stepWork, stationAt, StepStores, stores}
+use Rattle.writer.proofs.WorkLaws.{count-stored-below, station-at-below}
+use Rattle.writer.proofs.StepInPlace.{storedIn, step-in-place}
 use Rattle.writer.proofs.step.step_writer.Statement.{statement}
 use Rattle.writer.proofs.step.step_writer.Tie as tie
 
-judge-step-requires : tie.Need-judge-step-requires
-judge-step-requires c κs = search needs
+is-in-range-requires : tie.Need-is-in-range-requires
+is-in-range-requires c κs = search needs
 
-enum-known-refusal : tie.Need-enum-known-refusal
-enum-known-refusal c = search needs
+station-at-requires : tie.Need-station-at-requires
+station-at-requires c κs = search needs
 
-enum-told : tie.Need-enum-told
-enum-told c = search needs
+mul-station : tie.Need-mul-station
+mul-station c =
+    let below : c .before .station-at .result < 32 = rw (c .before .station-at .ensures) (station-at-below _) in
+    search needs
 
-run-step-requires : tie.Need-run-step-requires
-run-step-requires c κs = search needs
+array-copy-out-station : tie.Need-array-copy-out-station
+array-copy-out-station c = rw (c .before .station-at .ensures) (station-at-below _)
 
-returns : tie.Need-returns
-unfolding stepWriter
-returns c =
-    let a = c .before .before .before .before .before .args in
-    let s = now (a .slots) in
-    let done = writerRuns (a .panel) s (a .panel .writer .work) in
-    let verdict = sym (ap paperJudged (c .before .refusal .given .1)) ∙ c .before .before .before .judge-step .ensures in
-    sym (refused-outcome (a .panel) s done (c .before .refusal .given .0 .0)) ∙ ap (λ (n : ℕ). unlessRefused n (a .panel) s done) verdict
+step-work-requires : tie.Need-step-work-requires
+step-work-requires c κs = search needs
+
+mul-after : tie.Need-mul-after
+mul-after c =
+    let below : c .before .before .before .before .step-work .result .at < 64 = rw (ap (λ (p : StepStores). p .at) (c .before .before .before .before .step-work .ensures)) (count-stored-below _ _ _ _ _) in
+    search needs
+
+element-write-after : tie.Need-element-write-after
+element-write-after c = rw (ap (λ (p : StepStores). p .at) (c .before .before .before .before .step-work .ensures)) (count-stored-below _ _ _ _ _)
+
+mul-last : tie.Need-mul-last
+mul-last c =
+    let below : c .before .before .before .before .before .before .before .before .before .station-at .result < 32 = rw (c .before .before .before .before .before .before .before .before .before .station-at .ensures) (station-at-below _) in
+    search needs
+
+element-set-from-last : tie.Need-element-set-from-last
+element-set-from-last c = rw (c .before .before .before .before .before .before .before .before .before .station-at .ensures) (station-at-below _)
 
 same-length : tie.Need-same-length
 same-length c = search needs
 
-returns-2 : tie.Need-returns-2
-unfolding stepWriter
-returns-2 c =
-    let a = c .before .before .before .before .before .before .before .before .args in
+returns : tie.Need-returns
+unfolding withReach withCounts withStations withWriter
+returns c =
+    let a = c .before .before .before .before .before .before .before .before .before .before .before .before .before .args in
+    let p = a .panel in
     let s = now (a .slots) in
-    let done = writerRuns (a .panel) s (a .panel .writer .work) in
-    let verdict = sym (ap paperJudged (c .before .before .before .before .enum-told .given .1)) ∙ c .before .before .before .before .before .before .judge-step .ensures in
-    c .before .before .run-step .ensures
-    ∙ sym (allowed-outcome (a .panel) s done)
-    ∙ ap (λ (n : ℕ). unlessRefused n (a .panel) s done) verdict
+    let work = p .writer .work in
+    let next = c .before .before .before .before .step-work in
+    let at = c .before .before .before .before .before .before .before .before .before .station-at .ensures in
+    let fits = c .before .before .before .before .before .before .before .before .before .before .before .is-in-range .ensures in
+    (λ j. storedIn p (at j) (next .ensures j))
+    ∙ (λ j. storedIn p (stationAt work) (stores (p .m) (p .reach) (p .counts) (getD (p .stations) (at j) unheardStation) (stepWork (fits j) (p .m) (p .k) (p .reach) (p .counts) work s)))
+    ∙ step-in-place p s
 
 pub step-writer-spec : {M : Type 1} → statement M
 step-writer-spec =
     tie.close
     (tie.spec
-    judge-step-requires
-    enum-known-refusal
-    enum-told
-    run-step-requires
-    returns
+    is-in-range-requires
+    station-at-requires
+    mul-station
+    array-copy-out-station
+    step-work-requires
+    mul-after
+    element-write-after
+    mul-last
+    element-set-from-last
     same-length
-    returns-2)
+    returns)

@@ -1,8 +1,8 @@
--- `writer::step::writer_advance` meets its contract, case by case.
+-- `writer::work::writer_advance` meets its contract, case by case.
 use borrow.Author.Needs.{needs}
 use Rattle.writer.specs.Step.{workAdvance}
-use Rattle.writer.proofs.step.writer_advance.Statement.{statement}
-use Rattle.writer.proofs.step.writer_advance.Tie as tie
+use Rattle.writer.proofs.work.writer_advance.Statement.{statement}
+use Rattle.writer.proofs.work.writer_advance.Tie as tie
 
 enum-told : tie.Need-enum-told
 enum-told c = search needs

@@ -1,12 +1,12 @@
--- `writer::step::run_step` meets its contract: the three parts, one after the other.
+-- `writer::work::run_step` meets its contract: the three parts, one after the other.
 use mathlib.Core.Path.{_∙_, ap}
 use denote.Ref.{now}
 use borrow.Author.Needs.{needs}
-use Rattle.answers.specs.Answers.{outcome}
 use Rattle.effects.specs.Memory.{slotStored, accessRead, slotsAfter}
-use Rattle.writer.specs.Step.{writerAdvance, afterStep, writerRuns}
-use Rattle.writer.proofs.step.run_step.Statement.{statement}
-use Rattle.writer.proofs.step.run_step.Tie as tie
+use Rattle.writer.specs.Step.{workAdvance}
+use Rattle.writer.specs.Work.{afterAccess, workRuns}
+use Rattle.writer.proofs.work.run_step.Statement.{statement}
+use Rattle.writer.proofs.work.run_step.Tie as tie
 
 writer-access-requires : tie.Need-writer-access-requires
 writer-access-requires c κs = search needs
@@ -20,25 +20,25 @@ slot-stored-requires c κs = search needs
 writer-advance-requires : tie.Need-writer-advance-requires
 writer-advance-requires c κs = search needs
 
-finish-requires : tie.Need-finish-requires
-finish-requires c κs = search needs
+result-of-requires : tie.Need-result-of-requires
+result-of-requires c κs = search needs
 
 same-length : tie.Need-same-length
 same-length c = search needs
 
 returns : tie.Need-returns
-unfolding writerRuns afterStep
+unfolding afterAccess workRuns
 returns c =
-    let a = c .before .before .before .before .before .before .before .before .before .before .before .args in
-    let p = a .panel in
+    let a = c .before .before .before .before .before .before .before .before .before .args in
     let s = now (a .slots) in
     let access = c .before .before .before .before .before .before .before .writer-access .ensures in
     let performed = c .before .before .before .before .before .perform .ensures in
     let slot = c .before .before .slot-stored .ensures ∙ ap slotStored access in
     let word = performed .0 ∙ ap (accessRead s) access in
-    let effect = c .before .writer-advance .ensures ∙ (λ j. writerAdvance p (p .writer .work) (slot j) (word j)) in
-    (λ j. outcome (c .finish .ensures .0 j) (performed .1 j) (c .finish .ensures .1 j))
-    ∙ (λ j. afterStep p (slotsAfter s (access j)) (effect j))
+    let advance = c .before .writer-advance in
+    let effect = advance .ensures ∙ (λ j. workAdvance (a .k) (a .reach) (a .counts) (a .work) (slot j) (word j)) in
+    (λ j. record { work = advance .result .work; update = advance .result .update; slots = performed .1 j; answer = c .result-of .ensures j })
+    ∙ (λ j. afterAccess (slotsAfter s (access j)) (effect j))
 
 pub run-step-spec : {M : Type 1} → statement M
 run-step-spec =
@@ -48,6 +48,6 @@ run-step-spec =
     perform-requires
     slot-stored-requires
     writer-advance-requires
-    finish-requires
+    result-of-requires
     same-length
     returns)

@@ -1,8 +1,8 @@
--- `writer::step::writer_access` meets its contract, case by case.
+-- `writer::work::writer_access` meets its contract, case by case.
 use borrow.Author.Needs.{needs}
 use Rattle.writer.specs.Step.{workAccess}
-use Rattle.writer.proofs.step.writer_access.Statement.{statement}
-use Rattle.writer.proofs.step.writer_access.Tie as tie
+use Rattle.writer.proofs.work.writer_access.Statement.{statement}
+use Rattle.writer.proofs.work.writer_access.Tie as tie
 
 enum-told : tie.Need-enum-told
 enum-told c = search needs

@@ -1,0 +1,48 @@
+-- What the step hands back, stored in the record, makes of it what the step makes of the record.
+use Prim.Native.Nat.{ℕ, zero, suc}
+use mathlib.Core.Path.{_≡_, refl, ap}
+use mathlib.Core.List.{List}
+use native.Mathlib.Omega.{arith}
+use lib.ListN.{length, getD, set}
+use Rattle.record.specs.declared.Record.{Record}
+use Rattle.record.specs.Parts.{unheardStation, withReach, withCounts, withStations, withWriter}
+use Rattle.record_ranges.specs.Ranges.{inRange}
+use Rattle.record_ranges.proofs.Laws.{sizes-in-range}
+use Rattle.answers.specs.Answers.{refused, stepAnswer, Outcome, outcome, unlessRefused}
+use Rattle.effects.specs.Memory.{slotStored, accessRead, slotsAfter}
+use Rattle.effects.specs.Effects.{WriterEffect}
+use Rattle.effects.proofs.EffectLaws.{same-in-parts, updated-in-parts}
+use Rattle.writer.specs.Step.{writerAccess, writerAdvance, stepRefusal, afterStep, writerRuns, stepWriter}
+use Rattle.writer.specs.Work.{WorkOutcome, workUnless, afterAccess, workRuns, stepWork, stationAt, StepStores, stores}
+use Rattle.writer.proofs.WriterLaws.{at-work, run-update-fits}
+
+-- the record with what a step hands back stored in it, the station's last command at this place; the slots and the answer
+abbrev pub storedIn : Record → ℕ → StepStores → Outcome
+storedIn panel place next =
+    outcome
+    (withWriter
+    (withStations (withCounts (withReach panel (next .reach)) (set (panel .counts) (next .at) (next .count))) (set (panel .stations) place (next .station)))
+    (next .work))
+    (next .slots) (next .answer)
+
+module _ (panel : Record) (slots : List ℕ) where
+  abbrev place : ℕ
+  place = stationAt (panel .writer .work)
+
+  -- what the step hands back that comes to this
+  abbrev handsBack : WorkOutcome → StepStores
+  handsBack after = stores (panel .m) (panel .reach) (panel .counts) (getD (panel .stations) place unheardStation) after
+
+  by-number : (n : ℕ) → stepRefusal (length slots) panel ≡ n → storedIn panel place (handsBack (workUnless n (panel .writer .work) slots (workRuns (panel .m) (panel .k) (panel .reach) (panel .counts) (panel .writer .work) slots))) ≡ unlessRefused n panel slots (writerRuns panel slots (panel .writer .work))
+  unfolding workUnless unlessRefused stores workRuns afterAccess writerRuns afterStep withWriter
+  by-number zero e =
+      let w = at-work panel slots e in
+      let access = writerAccess panel (panel .writer .work) in
+      let effect = writerAdvance panel (panel .writer .work) (slotStored access) (accessRead slots access) in
+      ap (λ (p : Record). outcome (withWriter p (effect .work)) (slotsAfter slots access) (stepAnswer (effect .progress)))
+      (updated-in-parts panel place (effect .update) (sizes-in-range (length slots) panel (w .0) .k-high) (run-update-fits panel slots (w .0) (w .1)))
+  by-number (suc n) e = ap (λ (p : Record). outcome (withWriter p (panel .writer .work)) slots (refused (suc n))) (same-in-parts panel place)
+
+  pub step-in-place : storedIn panel place (handsBack (stepWork (inRange (length slots) panel) (panel .m) (panel .k) (panel .reach) (panel .counts) (panel .writer .work) slots)) ≡ stepWriter panel slots
+  unfolding stepWork stepWriter stepRefusal
+  step-in-place = by-number (stepRefusal (length slots) panel) refl

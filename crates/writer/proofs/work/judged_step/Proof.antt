@@ -1,0 +1,55 @@
+-- `writer::work::judged_step` meets its contract, by the verdict.
+use Prim.Native.Nat.{ℕ}
+use mathlib.Core.Path.{_∙_, sym, ap}
+use denote.Ref.{now}
+use borrow.Author.Needs.{needs}
+use Rattle.refusal.specs.Refusals.{paperJudged}
+use Rattle.writer.specs.Work.{workUnless, workRuns, stepWork}
+use Rattle.writer.proofs.WorkLaws.{refused-work, allowed-work}
+use Rattle.writer.proofs.work.judged_step.Statement.{statement}
+use Rattle.writer.proofs.work.judged_step.Tie as tie
+
+judge-step-requires : tie.Need-judge-step-requires
+judge-step-requires c κs = search needs
+
+enum-known-refusal : tie.Need-enum-known-refusal
+enum-known-refusal c = search needs
+
+enum-told : tie.Need-enum-told
+enum-told c = search needs
+
+run-step-requires : tie.Need-run-step-requires
+run-step-requires c κs = search needs
+
+returns : tie.Need-returns
+unfolding stepWork
+returns c =
+    let a = c .before .before .before .before .before .args in
+    let s = now (a .slots) in
+    let done = workRuns (a .m) (a .k) (a .reach) (a .counts) (a .work) s in
+    let verdict = sym (ap paperJudged (c .before .refusal .given .1)) ∙ c .before .before .before .judge-step .ensures in
+    sym (refused-work (a .work) s done (c .before .refusal .given .0 .0)) ∙ ap (λ (n : ℕ). workUnless n (a .work) s done) verdict
+
+same-length : tie.Need-same-length
+same-length c = search needs
+
+returns-2 : tie.Need-returns-2
+unfolding stepWork
+returns-2 c =
+    let a = c .before .before .before .before .before .before .before .before .args in
+    let s = now (a .slots) in
+    let done = workRuns (a .m) (a .k) (a .reach) (a .counts) (a .work) s in
+    let verdict = sym (ap paperJudged (c .before .before .before .before .enum-told .given .1)) ∙ c .before .before .before .before .before .before .judge-step .ensures in
+    c .before .before .run-step .ensures ∙ sym (allowed-work (a .work) s done) ∙ ap (λ (n : ℕ). workUnless n (a .work) s done) verdict
+
+pub judged-step-spec : {M : Type 1} → statement M
+judged-step-spec =
+    tie.close
+    (tie.spec
+    judge-step-requires
+    enum-known-refusal
+    enum-told
+    run-step-requires
+    returns
+    same-length
+    returns-2)

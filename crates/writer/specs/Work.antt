@@ -1,0 +1,97 @@
+-- The writer's step by what it needs of the record, and what it makes of that: the writer's work, the reach, one count and one station's last command.
+use Prim.Native.Nat.{ℕ, zero, suc}
+use mathlib.Core.Bool.{Bool}
+use mathlib.Core.List.{List}
+use lib.ListN.{getD}
+use Rattle.record.specs.declared.Station.{Station}
+use Rattle.record.specs.declared.WriterWork.{WriterWork}
+use Rattle.record.specs.declared.WriterWork.the-variants.{Idle, Putting, Changing, Removing}
+use Rattle.record.specs.Parts.{numberedPlace}
+use Rattle.answers.specs.Answers.{Answer, refused, stepAnswer, paperStep}
+use Rattle.effects.specs.declared.update.Update.{Update}
+use Rattle.effects.specs.declared.update.Update.the-variants.{Nothing}
+use Rattle.effects.specs.Memory.{slotStored, accessRead, slotsAfter}
+use Rattle.effects.specs.Effects.{WriterEffect, reachAfter, countPlace, countAfter, stationAfter}
+use Rattle.change.specs.Change.{commandingStation}
+use Rattle.writer.specs.declared.work.WorkStep.{WorkStep}
+use Rattle.writer.specs.declared.work.SteppedWriter.{SteppedWriter}
+use Rattle.writer.specs.Step.{workAccess, workAdvance, workRefusal}
+
+-- what a step comes to: the work after it, what changes in the record besides, the slots and the answer
+pub record WorkOutcome : Type 0 where
+  pub work : WriterWork
+  pub update : Update
+  pub slots : List ℕ
+  pub answer : Answer
+
+-- the same in the code's struct and the slots
+abbrev pub paperWork : WorkStep → List ℕ → WorkOutcome
+paperWork step slots = record { work = step .work; update = step .update; slots = slots; answer = paperStep (step .answer) }
+
+-- "All leave slots, buffers and record untouched": what a step comes to if it is refused with that number, or, where that is 0, as given
+unfoldable pub workUnless : ℕ → WriterWork → List ℕ → WorkOutcome → WorkOutcome
+workUnless zero work slots done = done
+workUnless (suc n) work slots done = record { work = work; update = Nothing; slots = slots; answer = refused (suc n) }
+
+-- a step with these slots after its access, and this effect
+unfoldable pub afterAccess : List ℕ → WriterEffect → WorkOutcome
+afterAccess slots effect =
+    record { work = effect .work; update = effect .update; slots = slots; answer = stepAnswer (effect .progress) }
+
+-- the three parts of a step of this work
+unfoldable pub workRuns : ℕ → ℕ → ℕ → List ℕ → WriterWork → List ℕ → WorkOutcome
+workRuns m k reach counts work slots =
+    afterAccess (slotsAfter slots (workAccess m k reach counts work))
+    (workAdvance k reach counts work (slotStored (workAccess m k reach counts work)) (accessRead slots (workAccess m k reach counts work)))
+
+-- the step of a writer with this work, by whether the record is in range
+unfoldable pub stepWork : Bool → ℕ → ℕ → ℕ → List ℕ → WriterWork → List ℕ → WorkOutcome
+stepWork fits m k reach counts work slots =
+    workUnless (workRefusal fits work) work slots (workRuns m k reach counts work slots)
+
+-- the station whose command's change is underway; 0 where none is
+abbrev pub stationUnderway : WriterWork → ℕ
+stationUnderway Idle = 0
+stationUnderway (Putting put) = 0
+stationUnderway (Changing change) = commandingStation (change .alteration)
+stationUnderway (Removing removal) = 0
+
+-- its place among the stations
+unfoldable pub stationAt : WriterWork → ℕ
+stationAt work = numberedPlace 32 (stationUnderway work)
+
+-- what a step stores in the record, with the slots and the answer: the work, the reach, the count at a place and a station's last command
+pub record StepStores : Type 0 where
+  pub work : WriterWork
+  pub reach : ℕ
+  pub at : ℕ
+  pub count : ℕ
+  pub station : Station
+  pub slots : List ℕ
+  pub answer : Answer
+
+-- the same in the code's struct and the slots
+abbrev pub paperStores : SteppedWriter → List ℕ → StepStores
+paperStores next slots =
+    record {
+      work = next .writer .work;
+      reach = next .reach;
+      at = next .at;
+      count = next .count;
+      station = next .station;
+      slots = slots;
+      answer = paperStep (next .answer);
+    }
+
+-- by what the step comes to; what no update changes is stored again as it was
+unfoldable pub stores : ℕ → ℕ → List ℕ → Station → WorkOutcome → StepStores
+stores m reach counts station after =
+    record {
+      work = after .work;
+      reach = reachAfter reach (after .update);
+      at = countPlace (after .update);
+      count = countAfter m (after .update) (getD counts (countPlace (after .update)) 0);
+      station = stationAfter (after .update) station;
+      slots = after .slots;
+      answer = after .answer;
+    }

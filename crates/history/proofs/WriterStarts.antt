@@ -33,7 +33,7 @@ use Rattle.search.proofs.SearchLaws.{searchLeft}
 use Rattle.effects.proofs.EffectLaws.{putSearchLeft, putLeft, changeLeft, removalLeft, writerLeft}
 use Rattle.effects.proofs.StepAgreement.{WorkOK, fedBy}
 use Rattle.change.specs.Change.{masksOf}
-use Rattle.writer.specs.Starts.{startRefusal, startWriter, startPut, startChange, startRemoval}
+use Rattle.writer.specs.Starts.{workStartRefusal, startRefusal, startWriter, startPut, startChange, startRemoval}
 use Rattle.writer.proofs.WriterAgreement.{operationOf}
 use Rattle.command.specs.declared.Sent.{Sent}
 use Rattle.command.specs.Command.{sentIn, frameRefusal, entryRefusal, commandedChange, changeStarts, numberEqual, numberOther, inTurn, startCommand}
@@ -110,11 +110,11 @@ module _ (world : World) (inv : Inv (world .panel .m) (world .panel .k) world) w
 
   -- "put, change, remove 1, 2, 4"
   start-due : (point : ℕ) → startRefusal (length slots) panel point ≡ operationRefusal (world .log) point
-  unfolding startRefusal operationRefusal refuseIf
+  unfolding startRefusal workStartRefusal operationRefusal refuseIf
   start-due point = rw (inv .fits, writer-is-idle world inv)
 
   start-inv : (point : ℕ) (underway : Writing) (work : WriterWork) → Fresh underway work → (validPoint point ≡ true → writerInRange k work ≡ true) → startRefusal (length slots) panel point ≡ 0 → Inv m k (noted world (writerStart underway) (outcome (withWriter panel work) slots started))
-  unfolding startRefusal
+  unfolding startRefusal workStartRefusal
   start-inv point underway work fresh ranged allowed =
       let a = not-refused (not (inRange (length slots) panel)) 1 _ (omega arith) allowed in
       let b = not-refused (not (validPoint point)) 2 _ (omega arith) (a .1) in

@@ -28,7 +28,7 @@ use Rattle.effects.specs.Effects.{WriterEffect, updated}
 use Rattle.record.specs.Idle.{isWriterIdle}
 use Rattle.effects.proofs.EffectLaws.{writerLeft, some-left, Updated, update-leaves}
 use Rattle.effects.proofs.StepAgreement.{begun, fedBy, Recorded, no-command, command-ends, After, StepOK, goes-on, ends-fed, empties, lowers}
-use Rattle.writer.specs.Step.{writerAccess, writerAdvance, afterStep, writerRuns, stepRefusal, stepWriter}
+use Rattle.writer.specs.Step.{writerAccess, writerAdvance, afterStep, writerRuns, workRefusal, stepRefusal, stepWriter}
 use Rattle.writer.proofs.WriterLaws.{run-in-range, run-less}
 use Rattle.writer.proofs.WriterAgreement.{operationOf, operation-begun, writer-agrees}
 use Rattle.command.specs.declared.Sent.{Sent}
@@ -303,11 +303,11 @@ module _ (world : World) (inv : Inv (world .panel .m) (world .panel .k) world) w
 
   -- "writer's step 1, 5"
   step-due : (frame : List ℕ) → stepRefusal (length slots) panel ≡ refusalDue (world .log) StepWriter frame
-  unfolding stepRefusal refusalDue refuseIf
+  unfolding stepRefusal workRefusal refusalDue refuseIf
   step-due frame = rw (inv .fits, writer-is-idle world inv)
 
   pub step-kept : (frame : List ℕ) → Kept world StepWriter frame (stepWriter panel slots)
-  unfolding stepWriter stepRefusal
+  unfolding stepWriter stepRefusal workRefusal
   step-kept frame =
       judged world inv StepWriter frame (stepRefusal (length slots) panel) _ (step-due frame)
       (λ allowed.

@@ -20,8 +20,8 @@ use Rattle.effects.specs.Counts.{counted, uncounted}
 use Rattle.effects.specs.Effects.{goesOn, ends, updated}
 use Rattle.put.specs.Put.{exceeds, putStageAccess, putAccess, putAt, putAnswered, putSearched, putScanned, putTakes, putStageAdvance, putAdvance}
 use Rattle.removal.specs.Removal.{removalStageAccess, removalAccess, removalAt, removalAnswered, removalSearched, isLast, removalEmpties, removalStageAdvance, removalAdvance}
-use Rattle.writer.specs.Step.{workAccess, workAdvance, stepRefusal, afterStep, writerRuns, stepWriter}
-use Rattle.writer.specs.Starts.{startRefusal, startWriter, startPut, startChange, startRemoval}
+use Rattle.writer.specs.Step.{workAccess, workAdvance, workRefusal, stepRefusal, afterStep, writerRuns, stepWriter}
+use Rattle.writer.specs.Starts.{workStartRefusal, startRefusal, startWriter, startPut, startChange, startRemoval}
 use Rattle.whole_operations.specs.Whole.{untilEnded, readerStep, writerStep, wholeLookup, wholePut, wholeRemoval}
 use Rattle.frame.specs.FieldMap.{hasBit, start, bigEndian, allowed}
 use Rattle.frame.specs.Frames.{fieldIn, judged, readRefusal, handed, readFrame}
@@ -36,7 +36,7 @@ unfolding both either within outside refuseIf z positionOf takenSlots freshRecor
     Reader·afterStep readerRuns stepReader makeFresh lookupWorkRefusal lookupRefusal startReader startLookup storeWord slotStored accessRead slotsAfter counted uncounted goesOn
     ends updated exceeds putStageAccess putAccess putAt putAnswered putSearched putScanned putTakes putStageAdvance putAdvance removalStageAccess
     removalAccess removalAt removalAnswered removalSearched isLast removalEmpties removalStageAdvance removalAdvance workAccess workAdvance
-    stepRefusal afterStep writerRuns stepWriter startRefusal startWriter startPut startChange startRemoval untilEnded readerStep writerStep wholeLookup
+    workRefusal stepRefusal afterStep writerRuns stepWriter workStartRefusal startRefusal startWriter startPut startChange startRemoval untilEnded readerStep writerStep wholeLookup
     wholePut wholeRemoval hasBit start bigEndian allowed fieldIn judged readRefusal handed readFrame applied runLine run answersOf fresh onlyPoint1
     sample answerTo startsOf markedValues
 marked = (refl, (refl, (refl, (refl, (refl, (refl, (refl, (refl, (refl, (refl, (refl, (refl, (refl, (refl, (refl, (refl, (refl, tt)))))))))))))))))

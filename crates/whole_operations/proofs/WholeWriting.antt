@@ -19,7 +19,7 @@ use Rattle.record_ranges.proofs.Laws.{reach-high}
 use Rattle.answers.specs.Answers.{Answer, started, underway, refused, isUnderway, Outcome, outcome, unlessRefused}
 use Rattle.answers.proofs.AnswerLaws.{refused-outcome, allowed-outcome}
 use Rattle.record.specs.Idle.{isWriterIdle}
-use Rattle.writer.specs.Starts.{startRefusal, startWriter}
+use Rattle.writer.specs.Starts.{workStartRefusal, startRefusal, startWriter}
 use Rattle.writer.specs.WriterFacts.{Begun}
 use Rattle.writer.proofs.WriterLaws.{AtWork}
 use Rattle.whole_operations.specs.Whole.{untilEnded, writerStep}
@@ -47,7 +47,7 @@ module _ (panel : Record) (slots : List ℕ) (point : ℕ) (work : WriterWork) (
     allowed = ap (λ (n : ℕ). unlessRefused n panel slots begun) e ∙ allowed-outcome panel slots begun
 
     judged : (inRange (length slots) panel ≡ true) × (panel .writer .work ≡ Idle)
-    unfolding startRefusal
+    unfolding startRefusal workStartRefusal
     judged =
         let after-1 = not-refused (not (inRange (length slots) panel)) 1 _ (omega arith) e in
         let after-2 = not-refused (not (validPoint point)) 2 _ (omega arith) (after-1 .1) in

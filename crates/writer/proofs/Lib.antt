@@ -2,3 +2,4 @@ pub mod WriterLaws
 pub mod WriterAgreement
 pub mod WorkLaws
 pub mod StepInPlace
+pub mod StartsInPlace

@@ -2,7 +2,6 @@
 use Prim.Native.Nat.{ℕ, zero, suc}
 use mathlib.Core.Path.{_≡_, refl, ap}
 use mathlib.Core.List.{List}
-use native.Mathlib.Omega.{arith}
 use lib.ListN.{length, getD, set}
 use Rattle.record.specs.declared.Record.{Record}
 use Rattle.record.specs.Parts.{unheardStation, withReach, withCounts, withStations, withWriter}
@@ -10,7 +9,6 @@ use Rattle.record_ranges.specs.Ranges.{inRange}
 use Rattle.record_ranges.proofs.Laws.{sizes-in-range}
 use Rattle.answers.specs.Answers.{refused, stepAnswer, Outcome, outcome, unlessRefused}
 use Rattle.effects.specs.Memory.{slotStored, accessRead, slotsAfter}
-use Rattle.effects.specs.Effects.{WriterEffect}
 use Rattle.effects.proofs.EffectLaws.{same-in-parts, updated-in-parts}
 use Rattle.writer.specs.Step.{writerAccess, writerAdvance, stepRefusal, afterStep, writerRuns, stepWriter}
 use Rattle.writer.specs.Work.{WorkOutcome, workUnless, afterAccess, workRuns, stepWork, stationAt, StepStores, stores}

@@ -19,7 +19,7 @@ use Rattle.slot_words.specs.Points.{validPoint}
 use Rattle.work_ranges.specs.WorkRanges.{searchInRange, putStageInRange, putInRange, removalStageInRange, removalInRange, writerInRange}
 use Rattle.record_ranges.specs.Ranges.{inRange}
 use Rattle.record_ranges.proofs.Laws.{fields, sizes-in-range, with-writer-in-range}
-use Rattle.writer.specs.Starts.{startRefusal, startWriter, startPut, startRemoval}
+use Rattle.writer.specs.Starts.{workStartRefusal, startRefusal, startWriter, startPut, startRemoval}
 use Rattle.writer.specs.WriterFacts.{Does, reads, stores-reach, stores-slot, Keeps, Begun}
 use Rattle.writer.specs.Step.{workAccess, writerAccess, workAdvance, writerAdvance, workRefusal, stepRefusal, afterStep, writerRuns, stepWriter}
 use Rattle.writer.specs.Work.{stationAt}
@@ -114,7 +114,7 @@ run-at-work panel slots fits working = record { fits = run-in-range panel slots 
 -- a start, and what it leaves
 module _ (panel : Record) (slots : List ℕ) (point : ℕ) (work : WriterWork) where
   started-fits : startRefusal (length slots) panel point ≡ 0 → (validPoint point ≡ true → writerInRange (panel .k) work ≡ true) → inRange (length slots) (withWriter panel work) ≡ true
-  unfolding startRefusal
+  unfolding startRefusal workStartRefusal
   started-fits e h =
       let after-1 = not-refused (not (inRange (length slots) panel)) 1 _ (omega arith) e in
       let after-2 = not-refused (not (validPoint point)) 2 _ (omega arith) (after-1 .1) in

@@ -1,6 +1,6 @@
 -- Document 01, "Steps": starting one of the writer's operations; "starting an operation takes no step".
-use Prim.Native.Nat.{ℕ}
-use mathlib.Core.Bool.{not}
+use Prim.Native.Nat.{ℕ, zero, suc}
+use mathlib.Core.Bool.{Bool, not}
 use mathlib.Core.List.{List}
 use lib.ListN.{length}
 use Rattle.refusal.specs.Judging.{refuseIf}
@@ -15,32 +15,63 @@ use Rattle.record.specs.declared.WriterWork.the-variants.{Putting, Changing, Re
 use Rattle.record.specs.Parts.{withWriter}
 use Rattle.slot_words.specs.Points.{validPoint}
 use Rattle.record_ranges.specs.Ranges.{inRange}
-use Rattle.answers.specs.Answers.{started, Outcome, outcome, unlessRefused}
+use Rattle.answers.specs.Answers.{Answer, started, refused, paperStart, Outcome, outcome, unlessRefused}
 use Rattle.record.specs.Idle.{isWriterIdle}
+use Rattle.writer.specs.declared.starts.StartedWriter.{StartedWriter}
+
+-- "put, change, remove 1, 2, 4", of a writer with this work, by whether the record is in range
+unfoldable pub workStartRefusal : Bool → ℕ → WriterWork → ℕ
+workStartRefusal fits point work =
+    refuseIf (not fits) 1 (refuseIf (not (validPoint point)) 2 (refuseIf (not (isWriterIdle work)) 4 0))
 
 -- "put, change, remove 1, 2, 4"
 unfoldable pub startRefusal : ℕ → Record → ℕ → ℕ
-startRefusal lent panel point =
-    refuseIf (not (inRange lent panel)) 1
-    (refuseIf (not (validPoint point)) 2 (refuseIf (not (isWriterIdle (panel .writer .work))) 4 0))
+startRefusal lent panel point = workStartRefusal (inRange lent panel) point (panel .writer .work)
 
 -- the writer is given its work, unless the call is refused
 unfoldable pub startWriter : Record → List ℕ → ℕ → WriterWork → Outcome
 startWriter panel slots point work =
     unlessRefused (startRefusal (length slots) panel point) panel slots (outcome (withWriter panel work) slots started)
 
+-- a put that begins
+abbrev pub putBegun : ℕ → ℕ → WriterWork
+putBegun point value = Putting (record { point = point; value = value; stage = PutStage·Searching Unread })
+
+-- a change that begins
+abbrev pub changeBegun : ℕ → ℕ → ℕ → WriterWork
+changeBegun point keep flip =
+    Changing (record { point = point; alteration = Given (record { keep = keep; flip = flip }); stage = ChangeStage·Searching Unread })
+
+-- a removal that begins
+abbrev pub removalBegun : ℕ → WriterWork
+removalBegun point = Removing (record { point = point; stage = RemovalStage·Searching Unread })
+
 -- starting a put
 unfoldable pub startPut : Record → List ℕ → ℕ → ℕ → Outcome
-startPut panel slots point value =
-    startWriter panel slots point (Putting (record { point = point; value = value; stage = PutStage·Searching Unread }))
+startPut panel slots point value = startWriter panel slots point (putBegun point value)
 
 -- starting a change
 unfoldable pub startChange : Record → List ℕ → ℕ → ℕ → ℕ → Outcome
-startChange panel slots point keep flip =
-    startWriter panel slots point
-    (Changing (record { point = point; alteration = Given (record { keep = keep; flip = flip }); stage = ChangeStage·Searching Unread }))
+startChange panel slots point keep flip = startWriter panel slots point (changeBegun point keep flip)
 
 -- starting a removal
 unfoldable pub startRemoval : Record → List ℕ → ℕ → Outcome
-startRemoval panel slots point =
-    startWriter panel slots point (Removing (record { point = point; stage = RemovalStage·Searching Unread }))
+startRemoval panel slots point = startWriter panel slots point (removalBegun point)
+
+-- what a start makes of the writer's work, and its answer
+pub record StartedWork : Type 0 where
+  pub work : WriterWork
+  pub answer : Answer
+
+-- the same in the code's struct
+abbrev pub paperStarted : StartedWriter → StartedWork
+paperStarted next = record { work = next .writer .work; answer = paperStart (next .answer) }
+
+-- "All leave slots, buffers and record untouched": the work stays if the start is refused with that number; where that is 0, it is the new one
+unfoldable pub newUnless : ℕ → WriterWork → WriterWork → StartedWork
+newUnless zero work new = record { work = new; answer = started }
+newUnless (suc n) work new = record { work = work; answer = refused (suc n) }
+
+-- the start of an operation on this point, by whether the record is in range and by the writer's work so far
+unfoldable pub startWork : Bool → WriterWork → ℕ → WriterWork → StartedWork
+startWork fits work point new = newUnless (workStartRefusal fits point work) work new

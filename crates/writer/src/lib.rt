@@ -5,7 +5,11 @@ mod starts;
 mod step;
 mod work;
 
+pub use starts::StartedWriter;
+pub use starts::change_started;
 pub use starts::judge_start;
+pub use starts::put_started;
+pub use starts::removal_started;
 pub use starts::start_change;
 pub use starts::start_put;
 pub use starts::start_removal;

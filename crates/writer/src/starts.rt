@@ -2,7 +2,7 @@
 ghost use mathlib.Core.Path.{_≡_};
 ghost use Rattle.refusal.specs.Refusals.{paperJudged};
 ghost use Rattle.answers.specs.Answers.{paperStart, outcome};
-ghost use Rattle.writer.specs.Starts.{startRefusal, startWriter, startPut, startChange, startRemoval};
+ghost use Rattle.writer.specs.Starts.{workStartRefusal, startRefusal, startWriter, putBegun, changeBegun, removalBegun, startPut, startChange, startRemoval, paperStarted, startWork};
 use answers::StartAnswer;
 use answers::StartOutcome;
 use record::Alteration;
@@ -15,82 +15,151 @@ use record::Record;
 use record::Removal;
 use record::RemovalStage;
 use record::Search;
+use record::Writer;
 use record::WriterWork;
 use record::idle::is_writer_idle;
-use record::parts::with_writer;
 use record_ranges::is_in_range;
 use refusal::Judged;
 use refusal::Refusal;
 use slot_words::points::is_valid_point;
 
+// The writer after a start, and its answer.
+pub struct StartedWriter {
+    pub writer: Writer,
+    pub answer: StartAnswer,
+}
+
 // Document 01's order: 1, 2, 4.
-pub fn judge_start(panel: Record, lent: usize, point: u32) -> Judged
-    ensures { λ r. ⌜ paperJudged r ≡ startRefusal lent panel point ⌝ }
+fn judge(fits: bool, point: u32, work: WriterWork) -> Judged
+    ensures { λ r. ⌜ paperJudged r ≡ workStartRefusal fits point work ⌝ }
 {
-    if !is_in_range(panel, lent) {
+    if !fits {
         return Judged::Refused(Refusal::Misfit);
     }
     if !is_valid_point(point) {
         return Judged::Refused(Refusal::Address);
     }
-    let writer = panel.writer;
-    let work = writer.work;
     if !is_writer_idle(work) {
         return Judged::Refused(Refusal::Engaged);
     }
     Judged::Allowed
 }
 
-// The writer is given its work, unless the call is refused.
-fn start_writer(panel: Record, slots: &[u64], point: u32, work: WriterWork) -> StartOutcome
-    ensures { λ r. ⌜ outcome (r .panel) (now (slots .entry)) (paperStart (r .answer)) ≡ startWriter panel (now (slots .entry)) point work ⌝ }
+// The same by the record.
+pub fn judge_start(panel: Record, lent: usize, point: u32) -> Judged
+    ensures { λ r. ⌜ paperJudged r ≡ startRefusal lent panel point ⌝ }
 {
-    match judge_start(panel, slots.len(), point) {
-        Judged::Refused(refusal) => StartOutcome {
-            panel: panel,
+    let writer = panel.writer;
+    let work = writer.work;
+    judge(is_in_range(panel, lent), point, work)
+}
+
+// The writer is given new work, unless the call is refused.
+fn started(fits: bool, writer: Writer, point: u32, new: WriterWork) -> StartedWriter
+    ensures { λ r. ⌜ paperStarted r ≡ startWork fits (writer .work) point new ⌝ }
+{
+    let work = writer.work;
+    match judge(fits, point, work) {
+        Judged::Refused(refusal) => StartedWriter {
+            writer: writer,
             answer: StartAnswer::Refused(refusal),
         },
-        Judged::Allowed => StartOutcome {
-            panel: with_writer(panel, work),
+        Judged::Allowed => StartedWriter {
+            writer: Writer { work: new },
             answer: StartAnswer::Started,
         },
     }
 }
 
-// Starts a put of a point and its value.
-pub fn start_put(panel: Record, slots: &[u64], point: u32, value: u32) -> StartOutcome
-    ensures { λ r. ⌜ outcome (r .panel) (now (slots .entry)) (paperStart (r .answer)) ≡ startPut panel (now (slots .entry)) point value ⌝ }
+// The same by the record.
+fn start_writer(panel: Record, slots: &[u64], point: u32, new: WriterWork) -> StartOutcome
+    ensures { λ r. ⌜ outcome (r .panel) (now (slots .entry)) (paperStart (r .answer)) ≡ startWriter panel (now (slots .entry)) point new ⌝ }
 {
-    let work = WriterWork::Putting(Put {
+    let writer = panel.writer;
+    let next = started(is_in_range(panel, slots.len()), writer, point, new);
+    let written = next.writer;
+    let answer = next.answer;
+    let mut after = panel;
+    after.writer = written;
+    StartOutcome {
+        panel: after,
+        answer: answer,
+    }
+}
+
+// A put that begins.
+fn put_begun(point: u32, value: u32) -> WriterWork
+    ensures { λ r. ⌜ r ≡ putBegun point value ⌝ }
+{
+    WriterWork::Putting(Put {
         point: point,
         value: value,
         stage: PutStage::Searching(Search::Unread),
-    });
-    start_writer(panel, slots, point, work)
+    })
 }
 
-// Starts a change of a point's value to (value AND keep) XOR flip.
-pub fn start_change(panel: Record, slots: &[u64], point: u32, keep: u32, flip: u32) -> StartOutcome
-    ensures { λ r. ⌜ outcome (r .panel) (now (slots .entry)) (paperStart (r .answer)) ≡ startChange panel (now (slots .entry)) point keep flip ⌝ }
+// A change that begins.
+fn change_begun(point: u32, keep: u32, flip: u32) -> WriterWork
+    ensures { λ r. ⌜ r ≡ changeBegun point keep flip ⌝ }
 {
-    let work = WriterWork::Changing(Change {
+    WriterWork::Changing(Change {
         point: point,
         alteration: Alteration::Given(Masks {
             keep: keep,
             flip: flip,
         }),
         stage: ChangeStage::Searching(Search::Unread),
-    });
-    start_writer(panel, slots, point, work)
+    })
+}
+
+// A removal that begins.
+fn removal_begun(point: u32) -> WriterWork
+    ensures { λ r. ⌜ r ≡ removalBegun point ⌝ }
+{
+    WriterWork::Removing(Removal {
+        point: point,
+        stage: RemovalStage::Searching(Search::Unread),
+    })
+}
+
+// Starts a put of a point and its value, by whether the record is in range.
+pub fn put_started(fits: bool, writer: Writer, point: u32, value: u32) -> StartedWriter
+    ensures { λ r. ⌜ paperStarted r ≡ startWork fits (writer .work) point (putBegun point value) ⌝ }
+{
+    started(fits, writer, point, put_begun(point, value))
+}
+
+// Starts a change of a point's value to (value AND keep) XOR flip, by whether the record is in range.
+pub fn change_started(fits: bool, writer: Writer, point: u32, keep: u32, flip: u32) -> StartedWriter
+    ensures { λ r. ⌜ paperStarted r ≡ startWork fits (writer .work) point (changeBegun point keep flip) ⌝ }
+{
+    started(fits, writer, point, change_begun(point, keep, flip))
+}
+
+// Starts a removal of a point, by whether the record is in range.
+pub fn removal_started(fits: bool, writer: Writer, point: u32) -> StartedWriter
+    ensures { λ r. ⌜ paperStarted r ≡ startWork fits (writer .work) point (removalBegun point) ⌝ }
+{
+    started(fits, writer, point, removal_begun(point))
+}
+
+// Starts a put of a point and its value.
+pub fn start_put(panel: Record, slots: &[u64], point: u32, value: u32) -> StartOutcome
+    ensures { λ r. ⌜ outcome (r .panel) (now (slots .entry)) (paperStart (r .answer)) ≡ startPut panel (now (slots .entry)) point value ⌝ }
+{
+    start_writer(panel, slots, point, put_begun(point, value))
+}
+
+// Starts a change of a point's value to (value AND keep) XOR flip.
+pub fn start_change(panel: Record, slots: &[u64], point: u32, keep: u32, flip: u32) -> StartOutcome
+    ensures { λ r. ⌜ outcome (r .panel) (now (slots .entry)) (paperStart (r .answer)) ≡ startChange panel (now (slots .entry)) point keep flip ⌝ }
+{
+    start_writer(panel, slots, point, change_begun(point, keep, flip))
 }
 
 // Starts a removal of a point.
 pub fn start_removal(panel: Record, slots: &[u64], point: u32) -> StartOutcome
     ensures { λ r. ⌜ outcome (r .panel) (now (slots .entry)) (paperStart (r .answer)) ≡ startRemoval panel (now (slots .entry)) point ⌝ }
 {
-    let work = WriterWork::Removing(Removal {
-        point: point,
-        stage: RemovalStage::Searching(Search::Unread),
-    });
-    start_writer(panel, slots, point, work)
+    start_writer(panel, slots, point, removal_begun(point))
 }

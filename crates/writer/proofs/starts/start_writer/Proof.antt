@@ -1,56 +1,28 @@
--- `writer::starts::start_writer` meets its contract, by the verdict.
-use Prim.Native.Nat.{ℕ}
-use mathlib.Core.Path.{_∙_, sym, ap}
-use borrow.Author.Needs.{needs}
+-- `writer::starts::start_writer` meets its contract: what the start hands back is stored in the record.
+use mathlib.Core.Path.{_∙_}
 use denote.Ref.{now}
-use Rattle.refusal.specs.Refusals.{paperJudged}
-use Rattle.record.specs.declared.Record.{Record}
+use borrow.Author.Needs.{needs}
 use Rattle.record.specs.Parts.{withWriter}
-use Rattle.answers.specs.Answers.{started, outcome, unlessRefused}
-use Rattle.answers.proofs.AnswerLaws.{refused-outcome, allowed-outcome}
-use Rattle.writer.specs.Starts.{startWriter}
+use Rattle.writer.specs.Starts.{startWork}
+use Rattle.writer.proofs.StartsInPlace.{startedIn, start-in-place}
 use Rattle.writer.proofs.starts.start_writer.Statement.{statement}
 use Rattle.writer.proofs.starts.start_writer.Tie as tie
 
-judge-start-requires : tie.Need-judge-start-requires
-judge-start-requires c κs = search needs
+is-in-range-requires : tie.Need-is-in-range-requires
+is-in-range-requires c κs = search needs
 
-enum-known-refusal : tie.Need-enum-known-refusal
-enum-known-refusal c = search needs
-
-enum-told : tie.Need-enum-told
-enum-told c = search needs
-
-with-writer-requires : tie.Need-with-writer-requires
-with-writer-requires c κs = search needs
+started-requires : tie.Need-started-requires
+started-requires c κs = search needs
 
 returns : tie.Need-returns
-unfolding startWriter
+unfolding withWriter
 returns c =
     let a = c .before .before .before .before .before .args in
+    let p = a .panel in
     let s = now (a .slots) in
-    let done = outcome (withWriter (a .panel) (a .work)) s started in
-    let verdict = sym (ap paperJudged (c .before .refusal .given .1)) ∙ c .before .before .before .judge-start .ensures in
-    sym (refused-outcome (a .panel) s done (c .before .refusal .given .0 .0)) ∙ ap (λ (n : ℕ). unlessRefused n (a .panel) s done) verdict
-
-returns-2 : tie.Need-returns-2
-unfolding startWriter
-returns-2 c =
-    let a = c .before .before .before .before .before .args in
-    let s = now (a .slots) in
-    let done = outcome (withWriter (a .panel) (a .work)) s started in
-    let verdict = sym (ap paperJudged (c .before .enum-told .given .1)) ∙ c .before .before .before .judge-start .ensures in
-    ap (λ (p : Record). outcome p s started) (c .with-writer .ensures)
-    ∙ sym (allowed-outcome (a .panel) s done)
-    ∙ ap (λ (n : ℕ). unlessRefused n (a .panel) s done) verdict
+    (λ j. startedIn p s (c .before .started .ensures j))
+    ∙ (λ j. startedIn p s (startWork (c .before .before .is-in-range .ensures j) (p .writer .work) (a .point) (a .new)))
+    ∙ start-in-place p s (a .point) (a .new)
 
 pub start-writer-spec : {M : Type 1} → statement M
-start-writer-spec =
-    tie.close
-    (tie.spec
-    judge-start-requires
-    enum-known-refusal
-    enum-told
-    with-writer-requires
-    returns
-    returns-2)
+start-writer-spec = tie.close (tie.spec is-in-range-requires started-requires returns)

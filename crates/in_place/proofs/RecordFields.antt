@@ -238,7 +238,59 @@ module _ (panel : Record) (is : Holds panel) where
   pub reader-holds : (k : ℕ) → k < 16 → Is (ReaderType.the-field .row) (ReaderType.the-field .into (getD (panel .readers) k idleReader)) (reader-val (getD (panel .readers) k idleReader) ∷ [])
   reader-holds k l = is-element ReaderType.the-field ReaderLaws.the-field-laws 16 (panel .readers) _ readers-hold k idleReader l
 
+  pub station-holds : (k : ℕ) → k < 32 → Is (StationType.the-field .row) (StationType.the-field .into (getD (panel .stations) k unheardStation)) (station-val (getD (panel .stations) k unheardStation) ∷ [])
+  station-holds k l = is-element StationType.the-field StationLaws.the-field-laws 32 (panel .stations) _ stations-hold k unheardStation l
+
   -- a record with a field replaced stands in its relation too
+  pub holds-with-reach : (x : ℕ) → x < 2 ^ 32 → Holds (withReach panel x)
+  unfolding withReach
+  holds-with-reach x l = LL.owes RecordType.the-type RecordLaws.the-laws (withReach panel x) ((refl, m-fits), ((refl, k-fits), ((refl, l), (counts-hold, (writer-holds, (readers-hold, (stations-hold, tt)))))))
+
+  pub holds-with-count : (k x : ℕ) → x < 2 ^ 32 → Holds (withCounts panel (set (panel .counts) k x))
+  unfolding withCounts
+  holds-with-count k x l = LL.owes RecordType.the-type RecordLaws.the-laws (withCounts panel (set (panel .counts) k x)) (
+    (refl, m-fits),
+    (
+      (refl, k-fits),
+      (
+        (refl, reach-fits),
+        (
+          is-replaced u32-field LL.u32-laws 64 (panel .counts) _ counts-hold k x (refl, l),
+          (writer-holds, (readers-hold, (stations-hold, tt))),
+        ),
+      ),
+    ),
+  )
+
+  pub holds-with-writer : (y : Writer) → Is (WriterType.the-field .row) (WriterType.the-field .into y) (writer-val y ∷ []) → Holds (withWriter panel (y .work))
+  unfolding withWriter
+  holds-with-writer y is-y = LL.owes RecordType.the-type RecordLaws.the-laws (withWriter panel (y .work)) ((refl, m-fits), ((refl, k-fits), ((refl, reach-fits), (counts-hold, (is-y, (readers-hold, (stations-hold, tt)))))))
+
+  pub holds-with-station : (k : ℕ) (y : Station) → Is (StationType.the-field .row) (StationType.the-field .into y) (station-val y ∷ []) → Holds (withStations panel (set (panel .stations) k y))
+  unfolding withStations
+  holds-with-station k y is-y = LL.owes RecordType.the-type RecordLaws.the-laws (withStations panel (set (panel .stations) k y)) (
+    (refl, m-fits),
+    (
+      (refl, k-fits),
+      (
+        (refl, reach-fits),
+        (
+          counts-hold,
+          (
+            writer-holds,
+            (
+              readers-hold,
+              (
+                is-replaced StationType.the-field StationLaws.the-field-laws 32 (panel .stations) _ stations-hold k y is-y,
+                tt,
+              ),
+            ),
+          ),
+        ),
+      ),
+    ),
+  )
+
   pub holds-with-reader : (k : ℕ) (y : Reader) → Is (ReaderType.the-field .row) (ReaderType.the-field .into y) (reader-val y ∷ []) → Holds (withReaders panel (set (panel .readers) k y))
   unfolding withReaders
   holds-with-reader k y is-y = LL.owes RecordType.the-type RecordLaws.the-laws (withReaders panel (set (panel .readers) k y)) (
@@ -264,6 +316,19 @@ module _ (panel : Record) (is : Holds panel) where
   module _ {M : Type 1} {𝓤 : URA M} {H : Heap 𝓤} {A : Atoms 𝓤} {K : Type 0} {W : Given 𝓤 H A} {Γ : List (Item 𝓤)} where
     pub reader-read : K → (b o k : ℕ) → k < 16 → Reads K W (‵ (recordAt panel b o) ∷ Γ) readerTy b (k * 20 + (o + 308)) (reader-val (getD (panel .readers) k idleReader))
     reader-read t b o k l = element-read ReaderType.the-field ReaderLaws.the-field-laws 16 5 308 readerTy readers-found panel (panel .readers) refl readers-hold t b o k idleReader l
+
+    pub station-read : K → (b o k : ℕ) → k < 32 → Reads K W (‵ (recordAt panel b o) ∷ Γ) stationTy b (k * 20 + (o + 628)) (station-val (getD (panel .stations) k unheardStation))
+    station-read t b o k l = element-read StationType.the-field StationLaws.the-field-laws 32 6 628 stationTy stations-found panel (panel .stations) refl stations-hold t b o k unheardStation l
+
+    pub station-stored : K → (b o k : ℕ) → k < 32 → (y : Station) → T (hasTy stationTy (station-val y)) × WT (station-val y)
+        → Writes K W (‵ (recordAt panel b o) ∷ Γ) stationTy b (k * 20 + (o + 628)) (station-val y) (‵ (recordAt (withStations panel (set (panel .stations) k y)) b o) ∷ Γ)
+    unfolding withStations
+    station-stored t b o k l y wt = element-stored StationType.the-field StationLaws.the-field-laws 32 6 628 stationTy stations-found panel (panel .stations) refl stations-hold t b o k unheardStation l y (withStations panel (set (panel .stations) k y)) refl wt
+
+    pub count-stored : K → (b o k : ℕ) → k < 64 → (x : ℕ) → T (hasTy (tyInt w32) (vint w32 x)) × WT (vint w32 x)
+        → Writes K W (‵ (recordAt panel b o) ∷ Γ) (tyInt w32) b (k * 4 + (o + 12)) (vint w32 x) (‵ (recordAt (withCounts panel (set (panel .counts) k x)) b o) ∷ Γ)
+    unfolding withCounts
+    count-stored t b o k l x wt = element-stored u32-field LL.u32-laws 64 3 12 (tyInt w32) counts-found panel (panel .counts) refl counts-hold t b o k 0 l x (withCounts panel (set (panel .counts) k x)) refl wt
 
     pub reader-stored : K → (b o k : ℕ) → k < 16 → (y : Reader) → T (hasTy readerTy (reader-val y)) × WT (reader-val y)
         → Writes K W (‵ (recordAt panel b o) ∷ Γ) readerTy b (k * 20 + (o + 308)) (reader-val y) (‵ (recordAt (withReaders panel (set (panel .readers) k y)) b o) ∷ Γ)

@@ -94,7 +94,23 @@ pub fn start_command(panel: &mut Record, slots: &[u64], bytes: &[u8]) -> EntryAn
 pub fn step_writer(panel: &mut Record, slots: &mut [u64]) -> StepAnswer
     ensures { λ r. ⌜ outcome (now (panel .exit)) (now (slots .exit)) (paperStep r) ≡ stepWriter (now (panel .entry)) (now (slots .entry)) ⌝ }
 {
-    let after = writer::step_writer(*panel, slots);
-    *panel = after.panel;
-    after.answer
+    let fits = fits_at(panel, slots.len());
+    let writer = panel.writer;
+    let at = writer::station_at(writer);
+    let station = panel.stations[at];
+    let next = writer::step_work(
+        fits,
+        panel.m,
+        panel.k,
+        panel.reach,
+        panel.counts,
+        writer,
+        station,
+        slots,
+    );
+    panel.reach = next.reach;
+    panel.counts[next.at] = next.count;
+    panel.stations[at] = next.station;
+    panel.writer = next.writer;
+    next.answer
 }

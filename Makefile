@@ -1,6 +1,6 @@
 # run: proves and builds the bench program and what it rests on, and runs it on its sample input.
 # test: the gate, all tests and proofs from nothing.
-# bench: the frame library, the readers and the bench program, each beside independent Rust programs,
+# bench: the frame library, single calls and the bench program, each beside independent Rust programs,
 #        in one run; the memory that a panel and the bench program take.
 # fuzz: the frame library and the programs' inputs, FUZZ_SECONDS (60) each; not part of the gate.
 # check-times: proves every crate from nothing, one at a time, and writes docs/CHECKTIMES.md.
@@ -15,7 +15,7 @@ test:
 
 bench:
 	rt staticlib frame
-	rt check reader_speed bench
+	rt check step_speed bench
 	host/bench
 
 fuzz:

@@ -7,7 +7,12 @@ use std::thread;
 /// What the program prints. A program that cannot be run, or that does not end normally, is an
 /// error.
 pub fn run(program: &str, input: &[u8]) -> Result<Vec<u8>> {
-    let output = feed(program, input)?;
+    run_with(program, &[], input)
+}
+
+/// The same with arguments.
+pub fn run_with(program: &str, arguments: &[&str], input: &[u8]) -> Result<Vec<u8>> {
+    let output = feed(program, arguments, input)?;
     if !output.status.success() {
         return Err(Error::other(output.status.to_string()));
     }
@@ -15,8 +20,9 @@ pub fn run(program: &str, input: &[u8]) -> Result<Vec<u8>> {
 }
 
 /// The input is written by a thread of its own, so that neither pipe can fill up and block.
-fn feed(program: &str, input: &[u8]) -> Result<Output> {
+fn feed(program: &str, arguments: &[&str], input: &[u8]) -> Result<Output> {
     let mut child = Command::new(program)
+        .args(arguments)
         .stdin(Stdio::piped())
         .stdout(Stdio::piped())
         .spawn()?;

@@ -1,0 +1,45 @@
+// The turns of a run, with calls that take and give the record by value.
+use crate::sums::with_start;
+use crate::sums::with_step;
+use reader_starts::start_lookup;
+use reader_step::step_reader;
+use record::Record;
+use writer::step_writer;
+
+// The readers' steps, by turns.
+pub(crate) fn reader_steps(panel: Record, slots: &[u64], turns: u32) -> u64 {
+    let mut kept = panel;
+    let mut sum = 0;
+    for i in 0..turns {
+        let after = step_reader(kept, slots, i % 16);
+        let answer = after.answer;
+        kept = after.panel;
+        sum = with_step(sum, answer);
+    }
+    sum
+}
+
+// A lookup of each reader in turn.
+pub(crate) fn lookup_starts(panel: Record, slots: &[u64], turns: u32) -> u64 {
+    let mut kept = panel;
+    let mut sum = 0;
+    for i in 0..turns {
+        let after = start_lookup(kept, slots, i, i + 1);
+        let answer = after.answer;
+        kept = after.panel;
+        sum = with_start(sum, answer);
+    }
+    sum
+}
+
+pub(crate) fn writer_steps(panel: Record, slots: &mut [u64], turns: u32) -> u64 {
+    let mut kept = panel;
+    let mut sum = 0;
+    for i in 0..turns {
+        let after = step_writer(kept, slots);
+        let answer = after.answer;
+        kept = after.panel;
+        sum = with_step(sum, answer);
+    }
+    sum
+}

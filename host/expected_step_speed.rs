@@ -1,0 +1,22 @@
+//! What the program `step_speed` has to print for the input given, worked out with the reference. It
+//! is also the Rust side of the benchmark of single calls.
+
+// Of the reference, only readers and writer are used.
+#[allow(dead_code)]
+mod reference_record;
+#[allow(dead_code)]
+mod reference_table;
+#[allow(dead_code)]
+mod reference_writer;
+
+mod step_workload;
+
+use std::io::stdin;
+
+fn main() {
+    for line in stdin().lines() {
+        let line = line.expect("an input of text");
+        let tally = step_workload::made(&line).expect("a line that asks for calls");
+        println!("{} {}", tally.calls, tally.sum);
+    }
+}

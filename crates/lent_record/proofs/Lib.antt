@@ -1,5 +1,9 @@
+pub mod Again
 pub mod Lending
 pub mod Lent
 pub mod LentLocal
 pub mod Panel
 pub mod Turns
+pub mod TurnsMet
+pub mod TurnsMut
+pub mod TurnsShared

@@ -15,11 +15,11 @@ use lib.WfN.{Nat·lt-wfRel}
 use borrow.Author.Tests.{ltb-true}
 use mir.Syntax.{Name, Ty, Fn, Body, Opd as Operand, named, erased, mut, w32, w64, unsigned, tyInt, tyBool, tyRef, place, copy, int, local, valueLocal, memorySlot, skip, seq, assign, block, loop, cond, exit, call, return, rvOpd, op2, addrOf, add, lt}
 use mir.Val.{Val, WT, hasTy, vbool, vint, vptr}
-use base.Logic.{SProp, ent, emp, ex, id⊢}
+use base.Logic.{SProp, ent, id⊢}
 use base.Fml.{Fml, GName, ftrue, fsep, fat, froom, fdies, flft, flent, fres}
 use prog.Wp.{Heap, Out, Env, Calls, Loops, Wp, WpFn, Tables, afterSeq, afterBlock, afterTurn, atReturn}
 use ghost.Atoms.{Atoms, sem}
-use types.Kit.{Given, Item, ‵, raw, _⊛_, mean, some, later, Post, Goal, runs, frees, anyQ, atRet, Sq, Step, Go, step, _$_, _∵_, !, qed, by, move, keep, drop, use1, use3, split, join, pick, rewrite, fsplit, fsplit3, fjoin3, await}
+use types.Kit.{Given, Item, ‵, raw, _⊛_, mean, some, later, Post, Goal, runs, frees, anyQ, atRet, Sq, Step, Go, step, _$_, _∵_, !, qed, by, move, keep, drop, use1, use3, split, join, pick, rewrite, fsplit, fsplit3, fjoin, fjoin3, await}
 use types.Run.{Opds, look, init, store, forget, stop, from, load, lit, of-opd, bin, addr, and-then, no-more, assigns, assigns-last, land, first, blocks, stays, leaves-loop, exec, Below, again, loops, returns, enter, alloc1, alloc0, params1, pass1, pass0, free1, free0}
 use types.SemTy.{Body as Borrowed}
 use types.Tokens.{lft-new, lft-end}
@@ -28,10 +28,10 @@ use denote.Builtin.{u64}
 use denote.Enum.Laws as EL
 use denote.Laws.{Is, Typed, shows}
 use denote.Memory.{mem, pointee}
-use denote.Plain.{uint-tells, uint-lawful}
+use denote.Plain.{uint-tells, uint-lawful, uint-makes}
 use denote.RattleType.{RattleType}
 use denote.Ref.{MutRef}
-use denote.Steps.{only, peeks, nothing}
+use denote.Steps.{only, owned, peeks, nothing}
 use denote.Triple.Call.{calls-from}
 use Rattle.in_place.proofs.Locals.{locals, Blocks, env, rooms, cells, allocate}
 use Rattle.in_place.proofs.Outcome.{Outcome, StateT, AnswerT, state-row, answer-row, state-ty, answer-ty, state-val, answer-val, state-typed}
@@ -115,19 +115,23 @@ module _ (O : Outcome) where
     is : Is R h (state-val O h ∷ [])
 
   module _ {M : Type 1} (𝓤 : URA M) (H : Heap 𝓤) (A : Atoms 𝓤) (F : SProp 𝓤) where
-    -- what the call in place is given, of a state that is lent for the lifetime ν, and what it gives back; and what the sum's function gives
+    -- what the call in place is given, of a state that is lent for the lifetime ν, and what it gives back
     abbrev pub Lent : (ν b : ℕ) (γ : GName) → StateT O → Item 𝓤
     Lent ν b γ h = (‵ (flft (ν ∷ []) fullShare) ⊛ ‵ (MutRef (named 0) (ν ∷ []) R .own (record { ptr = (b, 0); name = γ; now = h }) (vptr b 0 ∷ []))) ⊛ raw F
 
     abbrev pub Back : (ν : ℕ) (γ : GName) → Val → Item 𝓤
     Back ν γ u = later (some (λ (w : AnswerT O). some (λ (h : StateT O). (‵ (flft (ν ∷ []) fullShare) ⊛ ‵ (answer-row O .own w (u ∷ []))) ⊛ (‵ (fres γ (R .coded .code h)) ⊛ raw F))))
 
-    abbrev pub Summed : Val → Item 𝓤
-    Summed u = later (some (λ (s : ℕ). ‵ (u64 .own s (u ∷ []))))
+    -- what the sum's function is given of a sum and an answer, and what it gives, of which `more` is not looked at
+    abbrev pub Summing : ℕ → AnswerT O → Item 𝓤
+    Summing s w = (‵ ftrue ⊛ ‵ (fsep (u64 .own s (vint w64 s ∷ [])) (fsep (answer-row O .own w (answer-val O w ∷ [])) ftrue))) ⊛ ‵ ftrue
+
+    abbrev pub Summed : (ℕ → SProp 𝓤) → Val → Item 𝓤
+    Summed more u = later (some (λ (s : ℕ). (‵ ftrue ⊛ ‵ (u64 .own s (u ∷ []))) ⊛ raw (more s)))
 
     module _ (W : Given 𝓤 H A) (τ : Ty) (v : Val) (n : ℕ) (n-fits : n < 2 ^ 32) (vs : ℕ → List Val) (g : Arguments) (gives : Gives W τ v n vs g) (#callee #sum : Name) (𝓣 : Tables 𝓤 H)
         (met : (ν b : ℕ) (γ : GName) (h : StateT O) (i : ℕ) → i < n → ent 𝓤 (mean 𝓤 H A (Lent ν b γ h)) (H .⇛ (𝓣 .C #callee (vptr b 0 ∷ vs i) (λ u. mean 𝓤 H A (Back ν γ u)))))
-        (adds : (s : ℕ) (w : AnswerT O) → s < 2 ^ 64 → Is (answer-row O) w (answer-val O w ∷ []) → ent 𝓤 (emp 𝓤) (𝓣 .C #sum (vint w64 s ∷ answer-val O w ∷ []) (λ u. mean 𝓤 H A (Summed u))))
+        (more : ℕ → AnswerT O → ℕ → SProp 𝓤) (adds : (s : ℕ) (w : AnswerT O) → ent 𝓤 (mean 𝓤 H A (Summing s w)) (𝓣 .C #sum (vint w64 s ∷ answer-val O w ∷ []) (λ u. mean 𝓤 H A (Summed (more s w) u))))
         (Q : Val → SProp 𝓤) (ends : (s : ℕ) → s < 2 ^ 64 → ent 𝓤 F (Q (vint w64 s))) where
       abbrev Nearer : Turn → Turn → Type 0
       Nearer t′ t = n - t′ .i < n - t .i
@@ -180,10 +184,11 @@ module _ (O : Outcome) where
             rewrite ! 7 (λ (x : Val). ‵ (fat fullShare (answer-ty O) l₇ 0 x)) (ap only (EL.tells (O .answers .type) (O .answers .laws) w _ is-u)) refl $
             -- the lifetime is ended, and the state comes back
             lft-end ! tt $ move ! (1 ∷ []) $ split ! $ move ! (2 ∷ 6 ∷ 0 ∷ []) $ use3 W (later (‵ (fsep (fat fullShare (state-ty O) l₄ 0 (state-val O h)) (R .own h (state-val O h ∷ []))))) (comes-home (O .states .type) (O .states .laws) (O .states .plain) 𝓤 H A W (named 0) (ν ∷ []) l₄ γ h) $ await ! tt $ fsplit ! $
-            move ! (1 ∷ []) $ peeks ! R (Is R) (shows 𝓤 H A R) h (state-val O h ∷ []) (λ is-h. drop ! $ nothing ! $
-            -- [nothing; kept; F; i at 3; slots; the locals made; sum at 6; answer; the test; the reference; turns; …]
-            calls-from ! (fmOf 𝓤 H (W .laws) 𝓣) (‵ ftrue) (vint w64 (t .s) ∷ answer-val O w ∷ []) (λ x. mean 𝓤 H A (Summed x)) (adds (t .s) w (t .fits) (told w is-u)) (and-then ! (load ! (from ! (stop !)) (look ! 6 refl)) (and-then ! (load ! (from ! (stop !)) (look ! 7 refl)) (no-more !))) (λ x.
-            use1 W (Summed x) (id⊢ 𝓤 _) $ await ! tt $ pick ! (λ s. peeks ! u64 (Is u64) (shows 𝓤 H A u64) s (x ∷ []) (λ is-s. drop ! $
+            move ! (1 ∷ []) $ peeks ! R (Is R) (shows 𝓤 H A R) h (state-val O h ∷ []) (λ is-h. drop ! $
+            -- [kept; F; i at 2; slots; the locals made; sum; answer; …]: the sum and the answer are plain data, so what they own is had for nothing
+            nothing ! $ nothing ! $ owned ! (answer-row O) (Is (answer-row O)) (EL.makes (O .answers .type) (O .answers .plain) 𝓤 H A) w _ (told w is-u) $ fjoin ! $ owned ! u64 (Is u64) (uint-makes 𝓤 H A W w64) (t .s) _ (refl, t .fits) $ fjoin ! $ nothing ! $ join ! $ join ! $
+            calls-from ! (fmOf 𝓤 H (W .laws) 𝓣) (Summing (t .s) w) (vint w64 (t .s) ∷ answer-val O w ∷ []) (λ x. mean 𝓤 H A (Summed (more (t .s) w) x)) (adds (t .s) w) (and-then ! (load ! (from ! (stop !)) (look ! 6 refl)) (and-then ! (load ! (from ! (stop !)) (look ! 7 refl)) (no-more !))) (λ x.
+            use1 W (Summed (more (t .s) w) x) (id⊢ 𝓤 _) $ await ! tt $ pick ! (λ s. split ! $ split ! $ drop ! $ move ! (1 ∷ []) $ drop ! $ peeks ! u64 (Is u64) (shows 𝓤 H A u64) s (x ∷ []) (λ is-s. drop ! $
             -- [kept; F; i at 2; slots; the locals made at 4; sum; answer; the test; the reference; turns; …]
             land ! (from ! (stop !)) (store ! 5 refl (uint-lawful 𝓤 H A W w64 .typed s _ is-s .0)) $ rewrite ! 5 (λ (y : Val). ‵ (fat fullShare sum-ty l₅ 0 y)) (ap only (uint-tells w64 s _ is-s)) refl $
             assigns-last ! (bin ! (load ! (from ! (stop !)) (look ! 2 refl)) (lit ! tt) (record { fits = fits-next (t .i) less })) (from ! (stop !)) (store ! 2 refl (tt, record { fits = fits-next (t .i) less })) $

@@ -16,9 +16,9 @@ use borrow.Author.Tests.{ltb-true}
 use mir.Syntax.{Name, Ty, Fn, Body, Opd as Operand, named, erased, mut, w32, w64, unsigned, tyInt, tyBool, tyRef, place, copy, int, local, valueLocal, memorySlot, skip, seq, assign, block, loop, cond, exit, call, return, rvOpd, op2, addrOf, add, lt}
 use mir.Val.{Val, WT, hasTy, vbool, vint, vptr}
 use base.Logic.{SProp, ent, id⊢}
-use base.Fml.{Fml, GName, ftrue, fsep, fat, froom, fdies, flft, flent, fres}
+use base.Fml.{GName, ftrue, fsep, fat, froom, fdies, flft, flent, fres}
 use prog.Wp.{Heap, Out, Env, Calls, Loops, Wp, WpFn, Tables, afterSeq, afterBlock, afterTurn, atReturn}
-use ghost.Atoms.{Atoms, sem}
+use ghost.Atoms.{Atoms}
 use types.Kit.{Given, Item, ‵, raw, _⊛_, mean, some, later, Post, Goal, runs, frees, anyQ, atRet, Sq, Step, Go, step, _$_, _∵_, !, qed, by, move, keep, drop, use1, use3, split, join, pick, rewrite, fsplit, fsplit3, fjoin, fjoin3, await}
 use types.Run.{Opds, look, init, store, forget, stop, from, load, lit, of-opd, bin, addr, and-then, no-more, assigns, assigns-last, land, first, blocks, stays, leaves-loop, exec, Below, again, loops, returns, enter, alloc1, alloc0, params1, pass1, pass0, free1, free0}
 use types.SemTy.{Body as Borrowed}

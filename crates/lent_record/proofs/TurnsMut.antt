@@ -16,8 +16,7 @@ use contract.Monad.{Fun}
 use types.Kit.{Given, Item, ‵, raw, _⊛_, mean, some, given, later, _$_, _∵_, !, qed, by, move, keep, use0, use1, use2, use3, split, join, pick, learn, rewrite, fsplit, fjoin, feqL, check, show, frame, await, updating, now as at-once, done}
 use types.Tokens.{lft-new, lft-end}
 use denote.Builtin.{RefMutOf, u64}
-use denote.Exit.{yes, Last}
-use denote.Laws.{Is}
+use denote.Exit.{yes}
 use denote.RattleType.{RattleType}
 use denote.Ref.{RefT, MutRef, at-last}
 use denote.Signature.{plain}

@@ -16,7 +16,6 @@ use contract.Monad.{Fun}
 use types.Kit.{Given, Item, ‵, raw, _⊛_, mean, some, given, later, _$_, _∵_, !, qed, move, keep, use0, use1, split, join, pick, fsplit, fjoin, check, show, frame, await, updating, now as at-once, done}
 use denote.Builtin.{RefMutOf, u64}
 use denote.Exit.{yes, Last}
-use denote.Laws.{Is}
 use denote.RattleType.{RattleType, Denots, owns}
 use denote.Ref.{RefT, MutRef}
 use denote.Signature.{plain, typesAt}

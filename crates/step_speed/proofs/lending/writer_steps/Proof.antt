@@ -11,8 +11,7 @@ use types.Kit.{step, _$_, !, move, fsplit3, fjoin3}
 use types.Part.{agg, whole, sub, look-in}
 use types.Run.{look, init, stop, hop, fld, from, load, addr, and-then, no-more, assigns}
 use denote.Slice.{sliceTy, sliceVal}
-use denote.Triple.Spec.{tripleOf}
-use denote.Triple.Table.{cited, run-framed}
+use denote.Triple.Table.{run-framed}
 use Rattle.in_place.proofs.step_writer as callee
 use Rattle.in_place.proofs.step_writer.Met as callee-thm
 use Rattle.in_place.proofs.step_writer.Symbol as callee-def
@@ -20,8 +19,8 @@ use Rattle.in_place.proofs.step_writer.Symbol.{name as #callee}
 use Rattle.in_place.proofs.Locals.{at-entry, in-tail}
 use Rattle.in_place.proofs.Panel.{step-outcome}
 use Rattle.lent_record.proofs.Turns.{Arguments}
-use Rattle.lent_record.proofs.TurnsMet.{turns}
-use Rattle.lent_record.proofs.TurnsMut.{lent, lent-stay, lent-goes, lent-kept, lent-calls}
+use Rattle.lent_record.proofs.TurnsMet.{safe, sum-ended, turns}
+use Rattle.lent_record.proofs.TurnsMut.{lent, lent-stay, lent-callee, lent-goes, lent-kept, lent-calls}
 use Rattle.step_speed.proofs.sums.with_step as sum
 use Rattle.step_speed.proofs.sums.with_step.Met as sum-thm
 use Rattle.step_speed.proofs.sums.with_step.Symbol as sum-def
@@ -60,6 +59,6 @@ writer-steps-spec 𝓤 H 𝓜 𝓖 𝓡 =
           (in-tail _ (sliceTy pointer) [] (ms .1) (sliceVal (x .ptr) (length (x .now))) [] (and-then ! (load ! (from ! (stop !)) (look ! 1 refl)) (no-more !))));
     })
     (lent-calls 𝓤 H (𝓖 .A) (givenOf 𝓤 H 𝓜 𝓖) step-outcome (𝓡 .run (code.env #callee)) (run-framed 𝓤 H 𝓜 𝓡 (code.env #callee))
-    (record { clauses = callee.clauses 𝓤 H (𝓖 .A) (𝓜 .mem) (𝓡 .run); met = cited 𝓤 H (tripleOf 𝓤 H (𝓖 .A) callee.signature (callee.spec 𝓤 H (𝓖 .A) (𝓜 .mem) (𝓡 .run))) 𝓜 𝓡 code.env #callee callee-def.routine refl (callee-thm.met 𝓤 H 𝓜 𝓖 𝓡); ghost = λ κs a. tt; asks = λ κs a. id⊢ 𝓤 _ }))
-    (record { clauses = sum.clauses 𝓤 H (𝓖 .A) (𝓜 .mem) (𝓡 .run); met = cited 𝓤 H (tripleOf 𝓤 H (𝓖 .A) sum.signature (sum.spec 𝓤 H (𝓖 .A) (𝓜 .mem) (𝓡 .run))) 𝓜 𝓡 code.env #sum sum-def.routine refl (sum-thm.met 𝓤 H 𝓜 𝓖 𝓡); ghost = λ κs a. tt; asks = λ κs a. id⊢ 𝓤 _ })
+    (safe 𝓤 H 𝓜 𝓡 (𝓖 .A) (lent-callee step-outcome) code.env #callee callee-def.routine refl (callee.clauses 𝓤 H (𝓖 .A) (𝓜 .mem) (𝓡 .run)) (callee-thm.met 𝓤 H 𝓜 𝓖 𝓡) (λ κs a. tt) (λ κs a. id⊢ 𝓤 _)))
+    (safe 𝓤 H 𝓜 𝓡 (𝓖 .A) (sum-ended step-outcome) code.env #sum sum-def.routine refl (sum.clauses 𝓤 H (𝓖 .A) (𝓜 .mem) (𝓡 .run)) (sum-thm.met 𝓤 H 𝓜 𝓖 𝓡) (λ κs a. tt) (λ κs a. id⊢ 𝓤 _))
     (lent-goes 𝓤 H (𝓖 .A) (givenOf 𝓤 H 𝓜 𝓖)) (self.clauses 𝓤 H (𝓖 .A) (𝓜 .mem) (𝓡 .run)) (λ κs a γ r e. id⊢ 𝓤 _) (λ h. tt) (λ h l. refl)

@@ -5,11 +5,11 @@ use crate::reference_table::{position, start_lookup, start_walk, step_reader, wo
 use crate::reference_writer::{start_change, start_put, start_removal, step_writer, WriterStep};
 use std::hint::black_box;
 
-const K: u32 = 64;
+const K: u32 = 8;
 const READERS: u32 = 16;
 
 /// The point that is put, changed and removed.
-const POINT: u32 = 101;
+const POINT: u32 = 17;
 
 /// The calls made, and a sum of what they answered.
 #[derive(Default)]

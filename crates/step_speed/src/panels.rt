@@ -5,12 +5,12 @@ use record::Record;
 use record::parts::fresh_record;
 use slot_words::word::word_of;
 
-// The point that is put, changed and removed. At 16 and at 4096 slots its position 64 is none of those before.
-pub(crate) const POINT: u32 = 101;
+// The point that is put, changed and removed. At 16 and at 4096 slots its position 8 is none of those before.
+pub(crate) const POINT: u32 = 17;
 
 // All slots are taken, by points that nobody looks up, but the one at the last position of `POINT`.
 pub(crate) fn fill(slots: &mut [u64], m: u32) {
-    let free = hash::position(m, POINT, 64) as usize;
+    let free = hash::position(m, POINT, 8) as usize;
     let n = slots.len();
     for at in 0..n {
         slots[at] = filling(at, free);
@@ -25,14 +25,14 @@ fn filling(at: usize, free: usize) -> u64 {
 }
 
 pub(crate) fn idle_panel(m: u32, reach: u32) -> Record {
-    let mut panel = fresh_record(m, 64);
+    let mut panel = fresh_record(m, 8);
     panel.reach = reach;
     panel
 }
 
 // All readers at work: lookups of points that are not stored, and walks.
 pub(crate) fn readers_at_work(m: u32, slots: &[u64]) -> Record {
-    let mut panel = idle_panel(m, 64);
+    let mut panel = idle_panel(m, 8);
     for i in 0..8u32 {
         panel = two_started(panel, slots, i);
     }

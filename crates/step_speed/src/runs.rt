@@ -30,10 +30,10 @@ fn counted(tally: Tally, turns: u32, sum: u64) -> Tally {
     }
 }
 
-// As many turns as all 16 readers have work: a lookup takes 65 steps, a walk m.
+// As many turns as all 16 readers have work: a lookup takes 9 steps, a walk m.
 fn reader_runs(way: Way, m: u32, slots: &[u64], times: u32) -> Tally {
     let panel = readers_at_work(m, slots);
-    let turns = if m < 65 { 256 } else { 1040 };
+    let turns = 144;
     let mut tally = Tally { calls: 0, sum: 0 };
     for run in 0..times {
         tally = counted(tally, turns, reader_run(way, panel, slots, turns));
@@ -49,7 +49,7 @@ fn reader_run(way: Way, panel: Record, slots: &[u64], turns: u32) -> u64 {
 }
 
 fn lookup_runs(way: Way, m: u32, slots: &[u64], times: u32) -> Tally {
-    let panel = idle_panel(m, 64);
+    let panel = idle_panel(m, 8);
     let mut tally = Tally { calls: 0, sum: 0 };
     for run in 0..times {
         tally = counted(tally, 16, lookup_run(way, panel, slots));
@@ -65,9 +65,9 @@ fn lookup_run(way: Way, panel: Record, slots: &[u64]) -> u64 {
 }
 
 fn writer_runs(way: Way, m: u32, slots: &mut [u64], times: u32) -> Tally {
-    let putting = writer::start_put(idle_panel(m, 63), slots, POINT, 7);
-    let changing = writer::start_change(idle_panel(m, 64), slots, POINT, 4294967295, 1);
-    let removing = writer::start_removal(idle_panel(m, 64), slots, POINT);
+    let putting = writer::start_put(idle_panel(m, 7), slots, POINT, 7);
+    let changing = writer::start_change(idle_panel(m, 8), slots, POINT, 4294967295, 1);
+    let removing = writer::start_removal(idle_panel(m, 8), slots, POINT);
     three_runs(
         way,
         putting.panel,
@@ -90,15 +90,15 @@ fn three_runs(
     for run in 0..times {
         tally = counted(
             tally,
-            263,
+            39,
             three_run(way, putting, changing, removing, slots),
         );
     }
     tally
 }
 
-// The put searches as far as the reach of 63, scans all 64 positions, stores the reach and the word. The change
-// searches all 64 positions and stores the word, and so does the removal, which then lowers the reach.
+// The put searches as far as the reach of 7, scans all 8 positions, stores the reach and the word. The change
+// searches all 8 positions and stores the word, and so does the removal, which then lowers the reach.
 fn three_run(
     way: Way,
     putting: Record,
@@ -106,9 +106,9 @@ fn three_run(
     removing: Record,
     slots: &mut [u64],
 ) -> u64 {
-    let put = writer_run(way, putting, slots, 130);
-    let changed = writer_run(way, changing, slots, 66);
-    let removed = writer_run(way, removing, slots, 67);
+    let put = writer_run(way, putting, slots, 18);
+    let changed = writer_run(way, changing, slots, 10);
+    let removed = writer_run(way, removing, slots, 11);
     wrapping_add_u64(wrapping_add_u64(put, changed), removed)
 }
 

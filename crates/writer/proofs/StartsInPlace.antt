@@ -1,6 +1,7 @@
 -- What a start hands back, stored in the record, makes of it what the start makes of the record; and a refused start leaves the work.
 use Prim.Native.Nat.{ℕ, zero, suc, _≤_}
-use mathlib.Core.Path.{_≡_, refl}
+use mathlib.Core.Path.{_≡_, refl, ap, _∙_}
+use mathlib.Core.Bool.{Bool}
 use mathlib.Core.List.{List}
 use native.Mathlib.Omega.{arith}
 use lib.ListN.{length}
@@ -11,7 +12,7 @@ use Rattle.record.specs.declared.Record.{Record}
 use Rattle.record.specs.declared.WriterWork.{WriterWork}
 use Rattle.record.specs.Parts.{withWriter}
 use Rattle.record_ranges.specs.Ranges.{inRange}
-use Rattle.answers.specs.Answers.{started, refused, Outcome, outcome, unlessRefused}
+use Rattle.answers.specs.Answers.{Answer, started, refused, Outcome, outcome, unlessRefused}
 use Rattle.writer.specs.Starts.{startRefusal, startWriter, putBegun, changeBegun, removalBegun, startPut, startChange, startRemoval, StartedWork, newUnless, startWork}
 
 module _ (work new : WriterWork) where
@@ -51,3 +52,10 @@ module _ (panel : Record) (slots : List ℕ) (point : ℕ) where
   pub removal-in-place : startedIn panel slots (startWork (inRange (length slots) panel) (panel .writer .work) point (removalBegun point)) ≡ startRemoval panel slots point
   unfolding startRemoval
   removal-in-place = start-in-place (removalBegun point)
+
+-- the same of a record, an answer and a verdict that are told by equations
+pub start-stored : (panel : Record) (slots : List ℕ) (point : ℕ) (new : WriterWork) {after : Record} {answer : Answer} {fits : Bool} {next : StartedWork} → after ≡ withWriter panel (next .work) → answer ≡ next .answer → next ≡ startWork fits (panel .writer .work) point new → fits ≡ inRange (length slots) panel → outcome after slots answer ≡ startWriter panel slots point new
+start-stored panel slots point new same-record same-answer same-start same-range =
+    (λ j. outcome (same-record j) slots (same-answer j))
+    ∙ ap (startedIn panel slots) (same-start ∙ ap (λ (fits : Bool). startWork fits (panel .writer .work) point new) same-range)
+    ∙ start-in-place panel slots point new

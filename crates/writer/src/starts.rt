@@ -1,8 +1,9 @@
 // The calls that start one of the writer's operations. A start takes no step.
 ghost use mathlib.Core.Path.{_≡_};
 ghost use Rattle.refusal.specs.Refusals.{paperJudged};
+ghost use Rattle.record.specs.Parts.{withWriter};
 ghost use Rattle.answers.specs.Answers.{paperStart, outcome};
-ghost use Rattle.writer.specs.Starts.{workStartRefusal, startRefusal, startWriter, putBegun, changeBegun, removalBegun, startPut, startChange, startRemoval, paperStarted, startWork};
+ghost use Rattle.writer.specs.Starts.{workStartRefusal, startRefusal, putBegun, changeBegun, removalBegun, startPut, startChange, startRemoval, paperStarted, startWork};
 use answers::StartAnswer;
 use answers::StartOutcome;
 use record::Alteration;
@@ -71,95 +72,81 @@ fn started(fits: bool, writer: Writer, point: u32, new: WriterWork) -> StartedWr
     }
 }
 
-// The same by the record.
-fn start_writer(panel: Record, slots: &[u64], point: u32, new: WriterWork) -> StartOutcome
-    ensures { λ r. ⌜ outcome (r .panel) (now (slots .entry)) (paperStart (r .answer)) ≡ startWriter panel (now (slots .entry)) point new ⌝ }
-{
-    let writer = panel.writer;
-    let next = started(is_in_range(panel, slots.len()), writer, point, new);
-    let written = next.writer;
-    let answer = next.answer;
-    let mut after = panel;
-    after.writer = written;
-    StartOutcome {
-        panel: after,
-        answer: answer,
-    }
-}
-
-// A put that begins.
-fn put_begun(point: u32, value: u32) -> WriterWork
-    ensures { λ r. ⌜ r ≡ putBegun point value ⌝ }
-{
-    WriterWork::Putting(Put {
-        point: point,
-        value: value,
-        stage: PutStage::Searching(Search::Unread),
-    })
-}
-
-// A change that begins.
-fn change_begun(point: u32, keep: u32, flip: u32) -> WriterWork
-    ensures { λ r. ⌜ r ≡ changeBegun point keep flip ⌝ }
-{
-    WriterWork::Changing(Change {
-        point: point,
-        alteration: Alteration::Given(Masks {
-            keep: keep,
-            flip: flip,
-        }),
-        stage: ChangeStage::Searching(Search::Unread),
-    })
-}
-
-// A removal that begins.
-fn removal_begun(point: u32) -> WriterWork
-    ensures { λ r. ⌜ r ≡ removalBegun point ⌝ }
-{
-    WriterWork::Removing(Removal {
-        point: point,
-        stage: RemovalStage::Searching(Search::Unread),
-    })
-}
-
 // Starts a put of a point and its value, by whether the record is in range.
 pub fn put_started(fits: bool, writer: Writer, point: u32, value: u32) -> StartedWriter
     ensures { λ r. ⌜ paperStarted r ≡ startWork fits (writer .work) point (putBegun point value) ⌝ }
 {
-    started(fits, writer, point, put_begun(point, value))
+    let new = WriterWork::Putting(Put {
+        point: point,
+        value: value,
+        stage: PutStage::Searching(Search::Unread),
+    });
+    started(fits, writer, point, new)
 }
 
 // Starts a change of a point's value to (value AND keep) XOR flip, by whether the record is in range.
 pub fn change_started(fits: bool, writer: Writer, point: u32, keep: u32, flip: u32) -> StartedWriter
     ensures { λ r. ⌜ paperStarted r ≡ startWork fits (writer .work) point (changeBegun point keep flip) ⌝ }
 {
-    started(fits, writer, point, change_begun(point, keep, flip))
+    let new = WriterWork::Changing(Change {
+        point: point,
+        alteration: Alteration::Given(Masks {
+            keep: keep,
+            flip: flip,
+        }),
+        stage: ChangeStage::Searching(Search::Unread),
+    });
+    started(fits, writer, point, new)
 }
 
 // Starts a removal of a point, by whether the record is in range.
 pub fn removal_started(fits: bool, writer: Writer, point: u32) -> StartedWriter
     ensures { λ r. ⌜ paperStarted r ≡ startWork fits (writer .work) point (removalBegun point) ⌝ }
 {
-    started(fits, writer, point, removal_begun(point))
+    let new = WriterWork::Removing(Removal {
+        point: point,
+        stage: RemovalStage::Searching(Search::Unread),
+    });
+    started(fits, writer, point, new)
+}
+
+// The record after a start, and its answer.
+fn with_started(panel: Record, next: StartedWriter) -> StartOutcome
+    ensures { λ r. ⌜ (r .panel ≡ withWriter panel (next .writer .work)) × (r .answer ≡ next .answer) ⌝ }
+{
+    let writer = next.writer;
+    let answer = next.answer;
+    let mut after = panel;
+    after.writer = writer;
+    StartOutcome {
+        panel: after,
+        answer: answer,
+    }
 }
 
 // Starts a put of a point and its value.
 pub fn start_put(panel: Record, slots: &[u64], point: u32, value: u32) -> StartOutcome
     ensures { λ r. ⌜ outcome (r .panel) (now (slots .entry)) (paperStart (r .answer)) ≡ startPut panel (now (slots .entry)) point value ⌝ }
 {
-    start_writer(panel, slots, point, put_begun(point, value))
+    let fits = is_in_range(panel, slots.len());
+    let writer = panel.writer;
+    with_started(panel, put_started(fits, writer, point, value))
 }
 
 // Starts a change of a point's value to (value AND keep) XOR flip.
 pub fn start_change(panel: Record, slots: &[u64], point: u32, keep: u32, flip: u32) -> StartOutcome
     ensures { λ r. ⌜ outcome (r .panel) (now (slots .entry)) (paperStart (r .answer)) ≡ startChange panel (now (slots .entry)) point keep flip ⌝ }
 {
-    start_writer(panel, slots, point, change_begun(point, keep, flip))
+    let fits = is_in_range(panel, slots.len());
+    let writer = panel.writer;
+    with_started(panel, change_started(fits, writer, point, keep, flip))
 }
 
 // Starts a removal of a point.
 pub fn start_removal(panel: Record, slots: &[u64], point: u32) -> StartOutcome
     ensures { λ r. ⌜ outcome (r .panel) (now (slots .entry)) (paperStart (r .answer)) ≡ startRemoval panel (now (slots .entry)) point ⌝ }
 {
-    start_writer(panel, slots, point, removal_begun(point))
+    let fits = is_in_range(panel, slots.len());
+    let writer = panel.writer;
+    with_started(panel, removal_started(fits, writer, point))
 }

@@ -1,22 +1,28 @@
--- `writer::starts::start_change` meets its contract: the work that begins goes to `start_writer`.
-use mathlib.Core.Path.{_∙_, ap}
+-- `writer::starts::start_change` meets its contract: what the start hands back is stored in the record.
+use mathlib.Core.Path.{ap}
 use denote.Ref.{now}
 use borrow.Author.Needs.{needs}
-use Rattle.writer.specs.Starts.{startWriter, startChange}
+use Rattle.answers.specs.Answers.{paperStart}
+use Rattle.writer.specs.Starts.{changeBegun, startChange}
+use Rattle.writer.proofs.StartsInPlace.{start-stored}
 use Rattle.writer.proofs.starts.start_change.Statement.{statement}
 use Rattle.writer.proofs.starts.start_change.Tie as tie
 
-change-begun-requires : tie.Need-change-begun-requires
-change-begun-requires c κs = search needs
+is-in-range-requires : tie.Need-is-in-range-requires
+is-in-range-requires c κs = search needs
 
-start-writer-requires : tie.Need-start-writer-requires
-start-writer-requires c κs = search needs
+change-started-requires : tie.Need-change-started-requires
+change-started-requires c κs = search needs
+
+with-started-requires : tie.Need-with-started-requires
+with-started-requires c κs = search needs
 
 returns : tie.Need-returns
 unfolding startChange
 returns c =
-    let a = c .before .before .before .args in
-    c .start-writer .ensures ∙ ap (startWriter (a .panel) (now (a .slots)) (a .point)) (c .before .change-begun .ensures)
+    let a = c .before .before .before .before .before .args in
+    let stored = c .with-started .ensures in
+    start-stored (a .panel) (now (a .slots)) (a .point) (changeBegun (a .point) (a .keep) (a .flip)) (stored .0) (ap paperStart (stored .1)) (c .before .change-started .ensures) (c .before .before .before .is-in-range .ensures)
 
 pub start-change-spec : {M : Type 1} → statement M
-start-change-spec = tie.close (tie.spec change-begun-requires start-writer-requires returns)
+start-change-spec = tie.close (tie.spec is-in-range-requires change-started-requires with-started-requires returns)

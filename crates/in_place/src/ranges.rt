@@ -2,6 +2,7 @@
 ghost use mathlib.Core.Path.{_≡_};
 ghost use Rattle.record_ranges.specs.Ranges.{readersInRange, stationsInRange, inRange};
 use record::Record;
+use record_ranges::are_counts_in_range;
 use record_ranges::are_parts_in_range;
 use record_ranges::reader_joined;
 use record_ranges::station_joined;
@@ -37,8 +38,8 @@ pub(crate) fn fits_at(panel: &Record, lent: usize) -> bool
     let m = panel.m;
     let k = panel.k;
     let reach = panel.reach;
-    let counts = panel.counts;
     let writer = panel.writer;
+    let counts = are_counts_in_range(panel.counts, m, k);
     let readers = are_readers_in_range(panel, m, k);
     let stations = are_stations_in_range(panel);
     are_parts_in_range(lent, m, k, reach, counts, writer, readers, stations)

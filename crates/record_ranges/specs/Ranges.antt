@@ -43,14 +43,13 @@ stationInRange station =
 unfoldable pub stationsInRange : List Station → Bool
 stationsInRange stations = all stationInRange stations
 
--- every field in range, for a number of slots lent, by what holds of the readers and of the stations; "the reach (0 to k)"
-unfoldable pub partsInRange : ℕ → ℕ → ℕ → ℕ → List ℕ → WriterWork → Bool → Bool → Bool
+-- every field in range, for a number of slots lent, by what holds of the three arrays; "the reach (0 to k)"
+unfoldable pub partsInRange : ℕ → ℕ → ℕ → ℕ → Bool → WriterWork → Bool → Bool → Bool
 partsInRange lent m k reach counts work readers stations =
-    both (sizesInRange m k lent)
-    (both (leb reach k) (both (countsInRange m k counts) (both (writerInRange k work) (both readers stations))))
+    both (sizesInRange m k lent) (both (leb reach k) (both counts (both (writerInRange k work) (both readers stations))))
 
 -- every field of a record in range
 unfoldable pub inRange : ℕ → Record → Bool
 inRange lent panel =
-    partsInRange lent (panel .m) (panel .k) (panel .reach) (panel .counts) (panel .writer .work) (readersInRange (panel .m) (panel .k) (panel .readers))
+    partsInRange lent (panel .m) (panel .k) (panel .reach) (countsInRange (panel .m) (panel .k) (panel .counts)) (panel .writer .work) (readersInRange (panel .m) (panel .k) (panel .readers))
     (stationsInRange (panel .stations))

@@ -57,7 +57,7 @@ fn are_stations_in_range(stations: [Station; 32]) -> bool
 }
 
 // Only the counts of indices 1 to k are fields.
-fn are_counts_in_range(counts: [u32; 64], m: u32, k: u32) -> bool
+pub fn are_counts_in_range(counts: [u32; 64], m: u32, k: u32) -> bool
     ensures { λ r. ⌜ r ≡ countsInRange m k counts ⌝ }
 {
     for i in 0..64 {
@@ -95,13 +95,13 @@ pub fn station_joined(before: bool, station: Station) -> bool
     both_hold(before, is_station_in_range(station))
 }
 
-// Whether every field is in range, by whether the readers and the stations are.
+// Whether every field is in range, by whether those of the three arrays are.
 pub fn are_parts_in_range(
     lent: usize,
     m: u32,
     k: u32,
     reach: u32,
-    counts: [u32; 64],
+    counts: bool,
     writer: Writer,
     readers: bool,
     stations: bool,
@@ -114,7 +114,7 @@ pub fn are_parts_in_range(
         both_hold(
             reach <= k,
             both_hold(
-                are_counts_in_range(counts, m, k),
+                counts,
                 both_hold(is_writer_in_range(work, k), both_hold(readers, stations)),
             ),
         ),
@@ -134,7 +134,7 @@ pub fn is_in_range(panel: Record, lent: usize) -> bool
         panel.m,
         panel.k,
         panel.reach,
-        counts,
+        are_counts_in_range(counts, panel.m, panel.k),
         writer,
         are_readers_in_range(readers, panel.m, panel.k),
         are_stations_in_range(stations),

@@ -7,9 +7,6 @@ use Rattle.record_ranges.proofs.are_parts_in_range.Tie as tie
 are-sizes-in-range-requires : tie.Need-are-sizes-in-range-requires
 are-sizes-in-range-requires c κs = search needs
 
-are-counts-in-range-requires : tie.Need-are-counts-in-range-requires
-are-counts-in-range-requires c κs = search needs
-
 is-writer-in-range-requires : tie.Need-is-writer-in-range-requires
 is-writer-in-range-requires c κs = search needs
 
@@ -37,7 +34,6 @@ are-parts-in-range-spec =
     tie.close
     (tie.spec
     are-sizes-in-range-requires
-    are-counts-in-range-requires
     is-writer-in-range-requires
     both-hold-requires
     both-hold-requires-2

@@ -46,6 +46,18 @@ module _ {M : Type 1} (𝓤 : URA M) (H : Heap 𝓤) (A : Atoms 𝓤) (tokens : 
   Given-back R says u = H .⇛ (ex 𝓤 (λ (r : R .Denot). sep 𝓤 (sep 𝓤 tokens (sem 𝓤 H A (R .own r (u ∷ [])))) (says r)))
 
 module _ {M : Type 1} {𝓤 : URA M} {H : Heap 𝓤} {A : Atoms 𝓤} {K : Type 0} {W : Given 𝓤 H A} {Γ : List (Item 𝓤)} {E : Env 𝓤 H} {C : Calls 𝓤 H} {Λ : Loops 𝓤 H} {q : Post 𝓤 H} {f : Name} {xs : List Operand} {d : Place} {rest : Body} where
+  -- what the arguments own stands in the context
+  pub calls-owning : K → FmC 𝓤 H (W .laws) C → (tokens : SProp 𝓤) (Rs : List RattleType) (a : Denots Rs) (vss : Valss Rs)
+      → (R : RattleType) (val : R .Denot → Val) → Tells R (Is R) (λ r. val r ∷ []) → (says : R .Denot → SProp 𝓤)
+      → ent 𝓤 (mean 𝓤 H A (Asked 𝓤 H A tokens Rs a vss)) (C f (flat Rs vss) (Given-back 𝓤 H A tokens R says)) → Opds K W (Asked 𝓤 H A tokens Rs a vss ∷ Γ) E xs (flat Rs vss)
+      → ((r : R .Denot) → Is R r (val r ∷ []) → Seq K W (raw (says r) ∷ raw tokens ∷ Γ) (lands C Λ E d (val r) rest q))
+      → Seq K W (‵ (owns Rs a vss) ∷ raw tokens ∷ Γ) (runs C Λ E (seq (call f xs d) rest) q)
+  calls-owning t fm tokens Rs a vss R val tl says met os k =
+      move t (1 ∷ 0 ∷ []) $ join t $ use0 W (raw (emp 𝓤)) (id⊢ 𝓤 _) $ move t (1 ∷ 0 ∷ []) $ join t $
+      calls-from t fm (Asked 𝓤 H A tokens Rs a vss) (flat Rs vss) (Given-back 𝓤 H A tokens R says) met os (λ u.
+      use1 W (later (some (λ (r : R .Denot). (raw tokens ⊛ ‵ (R .own r (u ∷ []))) ⊛ raw (says r)))) (id⊢ 𝓤 _) $ await t tt $ pick t (λ r. split t $ split t $ move t (1 ∷ []) $
+      peeks t R (Is R) (shows 𝓤 H A R) r (u ∷ []) (λ is. drop t $ move t (1 ∷ 0 ∷ []) $ told R val tl (λ v. Seq K W (raw (says r) ∷ raw tokens ∷ Γ) (lands C Λ E d v rest q)) r u is (k r))))
+
   -- the arguments of Rs are plain data, and had for nothing; what those of Qs own stands in the context
   pub calls-with : K → FmC 𝓤 H (W .laws) C → (tokens : SProp 𝓤) (Rs Qs : List RattleType) → Makess 𝓤 H A Rs (Ises Rs) → (a : Denots Rs) (vss : Valss Rs) → Are Rs (Ises Rs) a vss → (c : Denots Qs) (wss : Valss Qs)
       → (R : RattleType) (val : R .Denot → Val) → Tells R (Is R) (λ r. val r ∷ []) → (says : R .Denot → SProp 𝓤)
@@ -54,19 +66,15 @@ module _ {M : Type 1} {𝓤 : URA M} {H : Heap 𝓤} {A : Atoms 𝓤} {K : Type 
       → ((r : R .Denot) → Is R r (val r ∷ []) → Seq K W (raw (says r) ∷ raw tokens ∷ Γ) (lands C Λ E d (val r) rest q))
       → Seq K W (‵ (owns Qs c wss) ∷ raw tokens ∷ Γ) (runs C Λ E (seq (call f xs d) rest) q)
   calls-with t fm tokens Rs Qs mk a vss are c wss R val tl says met os k =
-      use1 W (‵ (owns (Rs ++ Qs) (both Rs Qs a c) (both-vals Rs Qs vss wss))) (before 𝓤 H A Rs Qs mk a vss are c wss) $ move t (1 ∷ 0 ∷ []) $ join t $ use0 W (raw (emp 𝓤)) (id⊢ 𝓤 _) $ move t (1 ∷ 0 ∷ []) $ join t $
-      calls-from t fm (Asked 𝓤 H A tokens (Rs ++ Qs) (both Rs Qs a c) (both-vals Rs Qs vss wss)) (flat (Rs ++ Qs) (both-vals Rs Qs vss wss)) (Given-back 𝓤 H A tokens R says) met os (λ u.
-      use1 W (later (some (λ (r : R .Denot). (raw tokens ⊛ ‵ (R .own r (u ∷ []))) ⊛ raw (says r)))) (id⊢ 𝓤 _) $ await t tt $ pick t (λ r. split t $ split t $ move t (1 ∷ []) $
-      peeks t R (Is R) (shows 𝓤 H A R) r (u ∷ []) (λ is. drop t $ move t (1 ∷ 0 ∷ []) $ told R val tl (λ v. Seq K W (raw (says r) ∷ raw tokens ∷ Γ) (lands C Λ E d v rest q)) r u is (k r))))
+      use1 W (‵ (owns (Rs ++ Qs) (both Rs Qs a c) (both-vals Rs Qs vss wss))) (before 𝓤 H A Rs Qs mk a vss are c wss) $ calls-owning t fm tokens (Rs ++ Qs) (both Rs Qs a c) (both-vals Rs Qs vss wss) R val tl says met os k
 
   -- all arguments are plain data
   pub calls-plain : K → FmC 𝓤 H (W .laws) C → (Rs : List RattleType) → Makess 𝓤 H A Rs (Ises Rs) → (a : Denots Rs) (vss : Valss Rs) → Are Rs (Ises Rs) a vss
       → (R : RattleType) (val : R .Denot → Val) → Tells R (Is R) (λ r. val r ∷ []) → (says : R .Denot → SProp 𝓤)
-      → ent 𝓤 (mean 𝓤 H A (Asked 𝓤 H A (emp 𝓤) (Rs ++ []) (both Rs [] a tt) (both-vals Rs [] vss tt))) (C f (flat (Rs ++ []) (both-vals Rs [] vss tt)) (Given-back 𝓤 H A (emp 𝓤) R says))
-      → Opds K W (Asked 𝓤 H A (emp 𝓤) (Rs ++ []) (both Rs [] a tt) (both-vals Rs [] vss tt) ∷ Γ) E xs (flat (Rs ++ []) (both-vals Rs [] vss tt))
+      → ent 𝓤 (mean 𝓤 H A (Asked 𝓤 H A (emp 𝓤) Rs a vss)) (C f (flat Rs vss) (Given-back 𝓤 H A (emp 𝓤) R says)) → Opds K W (Asked 𝓤 H A (emp 𝓤) Rs a vss ∷ Γ) E xs (flat Rs vss)
       → ((r : R .Denot) → Is R r (val r ∷ []) → Seq K W (raw (says r) ∷ Γ) (lands C Λ E d (val r) rest q)) → Seq K W Γ (runs C Λ E (seq (call f xs d) rest) q)
   calls-plain t fm Rs mk a vss are R val tl says met os k =
-      use0 W (raw (emp 𝓤)) (id⊢ 𝓤 _) $ nothing t $ calls-with t fm (emp 𝓤) Rs [] mk a vss are tt tt R val tl says met os (λ r is. move t (1 ∷ []) $ drop t $ k r is)
+      use0 W (raw (emp 𝓤)) (id⊢ 𝓤 _) $ use0 W (‵ (owns Rs a vss)) (owns-make 𝓤 H A Rs (Ises Rs) mk a vss are) $ calls-owning t fm (emp 𝓤) Rs a vss R val tl says met os (λ r is. move t (1 ∷ []) $ drop t $ k r is)
 
 module _ {M : Type 1} (𝓤 : URA M) (H : Heap 𝓤) (A : Atoms 𝓤) (W : Given 𝓤 H A) (C : Calls 𝓤 H) (fm : FmC 𝓤 H (W .laws) C) (f : Name) where
   -- a call whose arguments are all plain data, from nothing: it gives a result of which φ holds

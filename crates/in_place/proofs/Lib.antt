@@ -8,7 +8,9 @@ pub mod Looked
 pub mod Outcome
 pub mod Panel
 pub mod Params
+pub mod PartWalk
 pub mod Passing
+pub mod ReaderPart
 pub mod RecordFields
 pub mod Steps
 pub mod Taken

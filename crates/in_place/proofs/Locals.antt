@@ -26,6 +26,11 @@ abbrev pub past : List Ty → ℕ → ℕ
 past [] i = i
 past (τ ∷ τs) i = suc (past τs i)
 
+-- the same past the entries of an environment
+abbrev pub beyond : List (Ty × ℕ) → ℕ → ℕ
+beyond [] i = i
+beyond (e ∷ F) i = suc (beyond F i)
+
 -- the locals from number i on, as operands
 abbrev pub copies : ℕ → List Ty → List Operand
 copies i [] = []
@@ -69,6 +74,15 @@ module _ (d : Ty × ℕ) where
   pub from-first : (τs : List Ty) (bs : Blocks τs) (E : List (Ty × ℕ)) → From (env τs bs ++ E) 0 τs bs
   from-first [] bs E = tt
   from-first (τ ∷ τs) bs E = (refl, from-next (τ, bs .0) (env τs (bs .1) ++ E) 0 τs (bs .1) (from-first τs (bs .1) E))
+
+  -- the same behind other entries, and behind other locals
+  pub from-beyond : (F E : List (Ty × ℕ)) (i : ℕ) (τs : List Ty) (bs : Blocks τs) → From E i τs bs → From (F ++ E) (beyond F i) τs bs
+  from-beyond [] E i τs bs f = f
+  from-beyond (e ∷ F) E i τs bs f = from-next e (F ++ E) (beyond F i) τs bs (from-beyond F E i τs bs f)
+
+  pub from-past : (σs : List Ty) (cs : Blocks σs) (E : List (Ty × ℕ)) (i : ℕ) (τs : List Ty) (bs : Blocks τs) → From E i τs bs → From (env σs cs ++ E) (past σs i) τs bs
+  from-past [] cs E i τs bs f = f
+  from-past (σ ∷ σs) cs E i τs bs f = from-next (σ, cs .0) (env σs (cs .1) ++ E) (past σs i) τs bs (from-past σs (cs .1) E i τs bs f)
 
 module _ {M : Type 1} {𝓤 : URA M} {H : Heap 𝓤} {A : Atoms 𝓤} {K : Type 0} {W : Given 𝓤 H A} where
   pub allocate : {Γ : List (Item 𝓤)} → K → (τs : List Ty) (ls : List Local) (Kt : Env 𝓤 H → Goal 𝓤 H)

@@ -54,6 +54,18 @@ pub record Outcome : Type 2 where
   pub answer : D → answers .type .D
   pub one : (x y : D) → values states answers (state x) (answer x) ≡ values states answers (state y) (answer y) → x ≡ y
 
+-- the same with the state given
+pub record OutcomeOf (T : State) : Type 2 where
+  pub answers : Answer
+  pub name : Sym
+  pub D : Type 0
+  pub state : D → T .type .D
+  pub answer : D → answers .type .D
+  pub one : (x y : D) → values T answers (state x) (answer x) ≡ values T answers (state y) (answer y) → x ≡ y
+
+abbrev pub outcome-of : {T : State} → OutcomeOf T → Outcome
+outcome-of {T} L = record { states = T; answers = L .answers; name = L .name; D = L .D; state = L .state; answer = L .answer; one = L .one }
+
 module _ (O : Outcome) where
   abbrev pub StateT : Type 0
   StateT = O .states .type .D
@@ -92,6 +104,9 @@ module _ (O : Outcome) where
 
   abbrev pub answer-val : AnswerT → Val
   answer-val w = EL.val (O .answers .type) (O .answers .laws) w
+
+  abbrev pub outcome-val : O .D → Val
+  outcome-val r = LL.val struct laws r
 
   module _ (r : O .D) (u : Val) (is : Is outcome-row r (u ∷ [])) where
     pub spelt : u ≡ vstruct (vcons (state-val (O .state r)) (vcons (answer-val (O .answer r)) vnil))

@@ -9,20 +9,27 @@ use Rattle.answers.proofs.StartOutcome as StartOutcome
 use Rattle.answers.proofs.StepAnswer as StepAnswer
 use Rattle.answers.proofs.StepAnswer.Laws as StepAnswer′
 use Rattle.answers.proofs.StepOutcome as StepOutcome
+use Rattle.reader_starts.proofs.StartedReader as StartedReader
+use Rattle.reader_step.proofs.SteppedReader as SteppedReader
+use Rattle.record.proofs.Reader as Reader
+use Rattle.record.proofs.Reader.Laws as Reader′
 use Rattle.record.proofs.Record as Record
 use Rattle.record.proofs.Record.Laws as Record′
-use Rattle.in_place.proofs.Outcome.{State, Answer, Outcome}
+use Rattle.in_place.proofs.Outcome.{State, Answer, Outcome, OutcomeOf}
 
 abbrev panel : State
 panel = record { type = Record.the-type; laws = Record′.the-laws; lowers = Record′.lowers; plain = Record′.the-plain }
 
-abbrev start-answer : Answer
+abbrev pub reader : State
+reader = record { type = Reader.the-type; laws = Reader′.the-laws; lowers = Reader′.lowers; plain = Reader′.the-plain }
+
+abbrev pub start-answer : Answer
 start-answer = record { type = StartAnswer.the-type; laws = StartAnswer′.the-laws; few = tt; lowers = StartAnswer′.lowers; plain = StartAnswer′.the-plain }
 
 abbrev pub start-outcome : Outcome
 start-outcome = record { states = panel; answers = start-answer; name = StartOutcome.the-type .name; D = StartOutcome.the-type .D; state = λ r. r .panel; answer = λ r. r .answer; one = StartOutcome.the-type .to-one }
 
-abbrev step-answer : Answer
+abbrev pub step-answer : Answer
 step-answer = record { type = StepAnswer.the-type; laws = StepAnswer′.the-laws; few = tt; lowers = StepAnswer′.lowers; plain = StepAnswer′.the-plain }
 
 abbrev pub step-outcome : Outcome
@@ -33,3 +40,10 @@ entry-answer = record { type = EntryAnswer.the-type; laws = EntryAnswer′.the-l
 
 abbrev pub entry-outcome : Outcome
 entry-outcome = record { states = panel; answers = entry-answer; name = EntryOutcome.the-type .name; D = EntryOutcome.the-type .D; state = λ r. r .panel; answer = λ r. r .answer; one = EntryOutcome.the-type .to-one }
+
+-- what the calls over a reader give, a reader and an answer
+abbrev pub stepped-reader : OutcomeOf reader
+stepped-reader = record { answers = step-answer; name = SteppedReader.the-type .name; D = SteppedReader.the-type .D; state = λ r. r .reader; answer = λ r. r .answer; one = SteppedReader.the-type .to-one }
+
+abbrev pub started-reader : OutcomeOf reader
+started-reader = record { answers = start-answer; name = StartedReader.the-type .name; D = StartedReader.the-type .D; state = λ r. r .reader; answer = λ r. r .answer; one = StartedReader.the-type .to-one }

@@ -9,8 +9,8 @@ use base.Logic.{ent, sep, ex, id⊢, via, emp, mono∗, emp∗}
 use base.Fml.{Share, Fml, ftrue, fat, fsep}
 use prog.Wp.{Heap, Env, spotOf}
 use ghost.Atoms.{Atoms, sem}
-use contract.Monad.{fact}
-use types.Kit.{Given, Item, ‵, raw, _⊛_, some, nth, Goal, Seq, _$_, use1, split, pick, move}
+use contract.Monad.{fact, factI}
+use types.Kit.{Given, Item, ‵, raw, _⊛_, some, nth, Goal, Seq, _$_, _∵_, !, qed, by, use1, split, pick, move}
 use types.Run.{Opd, look, stop, from, load}
 use denote.Laws.{Ises, Are, Makess}
 use denote.RattleType.{RattleType, Denots, Valss, owns}
@@ -29,6 +29,10 @@ module _ {M : Type 1} {𝓤 : URA M} {H : Heap 𝓤} {A : Atoms 𝓤} {K : Type 
   -- what a contract ensures beside the parameters' last values
   pub hears : K → {G : Goal 𝓤 H} {X : Type 0} (F : X → Fml) (φ : X → Type 0) → ((x : X) → φ x → Seq K W (‵ (F x) ∷ Γ) G) → Seq K W (raw (ex 𝓤 (λ (x : X). sep 𝓤 (sem 𝓤 H A (F x)) (fact 𝓤 (φ x)))) ∷ Γ) G
   hears t F φ k = use1 W (some (λ x. ‵ (F x) ⊛ raw (fact 𝓤 (φ x)))) (id⊢ 𝓤 _) $ pick t (λ x. split t $ move t (1 ∷ []) $ heard t (φ x) (λ p. k x p))
+
+-- the same, where it gives another fact
+pub follows : {M : Type 1} {𝓤 : URA M} {H : Heap 𝓤} {A : Atoms 𝓤} (W : Given 𝓤 H A) {X : Type 0} (F : X → Fml) (φ ψ : Type 0) → (φ → ψ) → ent 𝓤 (ex 𝓤 (λ (x : X). sep 𝓤 (sem 𝓤 H A (F x)) (fact 𝓤 φ))) (fact 𝓤 ψ)
+follows {𝓤 = 𝓤} {H = H} {A = A} W {X} F φ ψ so = qed W (raw (ex 𝓤 (λ (x : X). sep 𝓤 (sem 𝓤 H A (F x)) (fact 𝓤 φ))) ∷ []) ∵ hears ! F (λ x. φ) (λ x p. by ! (factI 𝓤 ψ _ (so p)))
 
 -- ---- what is owned by arguments of which the first are plain data
 abbrev pub both : (Rs Qs : List RattleType) → Denots Rs → Denots Qs → Denots (Rs ++ Qs)

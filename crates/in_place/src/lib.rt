@@ -14,6 +14,8 @@ use crate::ranges::fits_at;
 use answers::EntryAnswer;
 use answers::StartAnswer;
 use answers::StepAnswer;
+use reader_starts::lookup_started;
+use reader_starts::walk_started;
 use reader_step::step_work;
 use record::Record;
 use record::parts::reader_place;
@@ -22,18 +24,24 @@ use record::parts::reader_place;
 pub fn start_lookup(panel: &mut Record, slots: &[u64], reader: u32, point: u32) -> StartAnswer
     ensures { λ r. ⌜ outcome (now (panel .exit)) (now (slots .entry)) (paperStart r) ≡ startLookup (now (panel .entry)) (now (slots .entry)) reader point ⌝ }
 {
-    let after = reader_starts::start_lookup(*panel, slots, reader, point);
-    *panel = after.panel;
-    after.answer
+    let fits = fits_at(panel, slots.len());
+    let at = reader_place(reader);
+    let found = panel.readers[at];
+    let next = lookup_started(fits, reader, found, point);
+    panel.readers[at] = next.reader;
+    next.answer
 }
 
 // Starts a reader's walk over the slots.
 pub fn start_walk(panel: &mut Record, slots: &[u64], reader: u32) -> StartAnswer
     ensures { λ r. ⌜ outcome (now (panel .exit)) (now (slots .entry)) (paperStart r) ≡ startWalk (now (panel .entry)) (now (slots .entry)) reader ⌝ }
 {
-    let after = reader_starts::start_walk(*panel, slots, reader);
-    *panel = after.panel;
-    after.answer
+    let fits = fits_at(panel, slots.len());
+    let at = reader_place(reader);
+    let found = panel.readers[at];
+    let next = walk_started(fits, reader, found);
+    panel.readers[at] = next.reader;
+    next.answer
 }
 
 // The next step of a reader's lookup or walk.

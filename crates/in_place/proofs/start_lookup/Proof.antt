@@ -1,33 +1,32 @@
--- `in_place::start_lookup` meets its contract: of the record behind its reference it ensures what `reader_starts::start_lookup` ensures of a record by value.
--- By the one walk of all such functions (`InPlace.antt`). What it asks is that the callee's clause gives the function's, that the code is the walk's, and that the callee meets its contract.
-use mathlib.Core.List.{[], _∷_, List}
-use mathlib.Core.Path.{refl}
-use base.Logic.{id⊢}
-use mir.Syntax.{w64}
+-- `in_place::start_lookup` meets its contract: `ReaderPart.antt`'s start with `reader_starts::lookup_started`.
+use mathlib.Core.Path.{_≡_, refl, ap, _∙_}
+use mathlib.Core.List.{[], _∷_}
+use mir.Val.{vbool, vint}
+use mir.Syntax.{w32}
+use contract.Running.{givenOf}
 use denote.Ref.{now}
+use denote.Triple.End.{lastsOf}
 use denote.Triple.Spec.{tripleOf}
 use denote.Triple.Table.{cited}
-use Rattle.reader_starts.proofs.start_lookup as callee
-use Rattle.reader_starts.proofs.start_lookup.Met as callee-thm
-use Rattle.reader_starts.proofs.start_lookup.Symbol as callee-def
-use Rattle.reader_starts.proofs.start_lookup.Symbol.{name as #callee}
-use Rattle.in_place.proofs.InPlace.{by-value, at-end, in-place}
-use Rattle.in_place.proofs.Panel.{start-outcome}
-use Rattle.in_place.proofs.Params.{Param, number, slice}
-use Rattle.in_place.proofs.Passing.{copied}
+use Rattle.reader_starts.proofs.StartWork.{lookup-in-place}
+use Rattle.reader_starts.proofs.lookup_started as callee
+use Rattle.reader_starts.proofs.lookup_started.Met as callee-thm
+use Rattle.reader_starts.proofs.lookup_started.Symbol as callee-def
+use Rattle.reader_starts.proofs.lookup_started.Symbol.{name as #callee}
+use Rattle.in_place.proofs.Panel.{started-reader}
+use Rattle.in_place.proofs.ReaderPart.{start-in-place, handed, left-by}
+use Rattle.in_place.proofs.RecordFields.{reader-val}
+use Rattle.in_place.proofs.Steps.{follows}
 use Rattle.in_place.proofs.start_lookup as self
 use Rattle.in_place.proofs.start_lookup.Code as code
 use Rattle.in_place.proofs.start_lookup.Key.{name as #self}
 use Rattle.in_place.proofs.start_lookup.Statement.{statement}
 
-abbrev ps : List (Param 2)
-ps = slice w64 1 tt ∷ number ∷ number ∷ []
-
 pub start-lookup-spec : {M : Type 1} → statement M
 unfolding code.routine
 start-lookup-spec 𝓤 H 𝓜 𝓖 𝓡 =
-    in-place start-outcome ps (copied ps) 𝓤 H 𝓜 𝓖 𝓡 (self.clauses 𝓤 H (𝓖 .A) (𝓜 .mem) (𝓡 .run))
-    (record { gives = λ κs x a r l. callee.clauses 𝓤 H (𝓖 .A) (𝓜 .mem) (𝓡 .run) (κs .1) (now x, a) .ensures tt r (at-end start-outcome ps κs x a l); so = λ κs x a γ r l. id⊢ 𝓤 _ })
-    code.env #self #callee code.function (code.unfolded 𝓤 H 𝓜 𝓡) refl
-    (λ κs qs x a γ. cited 𝓤 H (tripleOf 𝓤 H (𝓖 .A) callee.signature (callee.spec 𝓤 H (𝓖 .A) (𝓜 .mem) (𝓡 .run))) 𝓜 𝓡 code.env #callee callee-def.routine refl (callee-thm.met 𝓤 H 𝓜 𝓖 𝓡)
-    ((κs .1, qs .1, tt, (now x, a), by-value start-outcome ps κs x a), tt))
+    start-in-place started-reader 1 #callee 𝓤 H 𝓜 𝓖 𝓡 code.env (self.clauses 𝓤 H (𝓖 .A) (𝓜 .mem) (𝓡 .run)) #self code.function (code.unfolded 𝓤 H 𝓜 𝓡) refl refl refl
+    (λ κs a next. callee.spec 𝓤 H (𝓖 .A) (𝓜 .mem) (𝓡 .run) tt a .ensures tt next)
+    (λ κs a. cited 𝓤 H (tripleOf 𝓤 H (𝓖 .A) callee.signature (callee.spec 𝓤 H (𝓖 .A) (𝓜 .mem) (𝓡 .run))) 𝓜 𝓡 code.env #callee callee-def.routine refl (callee-thm.met 𝓤 H 𝓜 𝓖 𝓡)
+    ((tt, tt, tt, a, (vbool (a .0) ∷ [], (vint w32 (a .1 .0) ∷ [], (reader-val (a .1 .1 .0) ∷ [], (vint w32 (a .1 .1 .1 .0) ∷ [], tt))))), tt))
+    (λ κs x a γ next. follows (givenOf 𝓤 H 𝓜 𝓖) (lastsOf tt (callee.signature .params) (callee.ended .kept) (handed 1 κs x a)) _ _ (λ next-is. ap (left-by (now x) (a .0 .now) (a .1 .0)) next-is ∙ lookup-in-place (now x) (a .0 .now) (a .1 .0) (a .1 .1 .0)))

@@ -17,7 +17,7 @@ use contract.Lifetimes.{Lfts, Shares}
 use contract.Monad.{Fun, factI}
 use contract.Running.{givenOf, tables, tablesOf}
 use types.Kit.{Given, mean, _$_, _∵_, !, qed, by, move, keep, drop, split, fsplit, fsplit3}
-use types.Run.{look, init, stop, hop, from, load, of-opd, and-then, no-more, assigns, land, returns, enter, params1, pass1, pass0}
+use types.Run.{look, init, stop, hop, from, load, of-opd, and-then, no-more, assigns, land, returns, enter, alloc0, params1, pass1, pass0, free0}
 use sound.WpLaws.{FmC, fmOf}
 use denote.Array.{Array, array-makes}
 use denote.Builtin.{u32, usize, bool}
@@ -47,7 +47,8 @@ use Rattle.record_ranges.proofs.are_parts_in_range.Symbol as parts-def
 use Rattle.record_ranges.proofs.are_parts_in_range.Symbol.{name as #parts}
 use Rattle.in_place.proofs.Calls.{calls-plain, calls-handing}
 use Rattle.in_place.proofs.Elements.{map-same}
-use Rattle.in_place.proofs.Frame.{allocate, free}
+use Rattle.in_place.proofs.Frame.{spread, gather, free-rooms}
+use Rattle.in_place.proofs.Locals.{allocate}
 use Rattle.in_place.proofs.Looked.{Entry, Exit, ends, looked}
 use Rattle.in_place.proofs.Params.{Param, wide, slots, tys, args, Related, well-typed}
 use Rattle.in_place.proofs.RecordFields.{row, Holds, writerTy, counts-val, writer-val, m-place, k-place, reach-place, counts-place, writer-place, m-seen, k-seen, reach-seen, counts-seen, writer-seen, m-fits, k-fits, reach-fits, counts-hold, writer-holds, writer-typed, counts-typed, looks-panel, shuts-panel}
@@ -83,7 +84,7 @@ module _ {M : Type 1} (𝓤 : URA M) (H : Heap 𝓤) (A : Atoms 𝓤) (W : Given
   walk : Related κs ps a → ent 𝓤 (mean 𝓤 H A (Entry ps 𝓤 H A (self.clauses 𝓤 H A mem run) κs qs x a tt)) (WpFn 𝓤 H (𝓣 .C) (𝓣 .Λ) code.function (vptr (x .ptr .0) (x .ptr .1) ∷ args κs ps a) (Exit ps 𝓤 H A (self.clauses 𝓤 H A mem run) κs qs x a tt))
   walk are =
       qed W (Entry ps 𝓤 H A (self.clauses 𝓤 H A mem run) κs qs x a tt ∷ []) ∵ split ! $ split ! $ split ! $ move ! (2 ∷ []) $ fsplit ! $ fsplit3 ! $ keep ! (4 ∷ 1 ∷ 2 ∷ []) $
-      enter ! (𝓣 .C) (𝓣 .Λ) code.function (vptr b o ∷ args κs ps a) _ $ allocate ! τs (λ bs. params1 ! $ pass1 ! (init ! 2 refl (tt, tt)) $ pass1 ! (init ! 4 refl (ok .0)) $ pass0 ! $
+      enter ! (𝓣 .C) (𝓣 .Λ) code.function (vptr b o ∷ args κs ps a) _ $ allocate ! τs [] _ (λ bs. alloc0 ! $ spread ! τs bs $ params1 ! $ pass1 ! (init ! 2 refl (tt, tt)) $ pass1 ! (init ! 4 refl (ok .0)) $ pass0 ! $
       move ! (24 ∷ 22 ∷ []) $ looks-panel ! tt h b o (λ q′ is.
       -- [a share of the record; what shuts it; the shared borrow; local i at 2i + 3; the reference's mark at 25]
       assigns ! (of-opd ! (load ! (from ! (hop ! (look ! 5 refl) (m-place !))) (m-seen ! q′ h b o))) (from ! (stop !)) (init ! 9 refl (tt, record { fits = m-fits h is })) $
@@ -112,7 +113,7 @@ module _ {M : Type 1} (𝓤 : URA M) (H : Heap 𝓤) (A : Atoms 𝓤) (W : Given
       (met-parts ((tt, tt, tt, asked counts-fit readers-fit stations-fit, (vint w64 n ∷ [], (vint w32 (h .m) ∷ [], (vint w32 (h .k) ∷ [], (vint w32 (h .reach) ∷ [], (vbool counts-fit ∷ [], (writer-val (h .writer) ∷ [], (vbool readers-fit ∷ [], (vbool stations-fit ∷ [], tt))))))))), tt))
       (and-then ! (of-local ! 8 refl) (and-then ! (of-local ! 10 refl) (and-then ! (of-local ! 12 refl) (and-then ! (of-local ! 14 refl) (and-then ! (of-local ! 18 refl) (and-then ! (of-local ! 16 refl) (and-then ! (of-local ! 20 refl) (and-then ! (of-local ! 22 refl) (no-more !))))))))) (λ r _.
       hears ! (lastsOf tt (parts.signature .params) (parts.ended .kept) (asked counts-fit readers-fit stations-fit)) (λ _. r ≡ partsInRange n (h .m) (h .k) (h .reach) counts-fit (h .writer .work) readers-fit stations-fit) (λ _ parts-are. drop ! $ land ! (from ! (stop !)) (init ! 3 refl (tt, tt)) $
-      returns ! (look ! 3 refl) $ move ! (span 3 22) $ free ! τs bs (some _ ∷ some _ ∷ some _ ∷ some _ ∷ some _ ∷ some _ ∷ some _ ∷ some _ ∷ some _ ∷ some _ ∷ some _ ∷ []) $ keep ! (0 ∷ []) $
+      returns ! (look ! 3 refl) $ move ! (span 3 22) $ gather ! τs bs (some _ ∷ some _ ∷ some _ ∷ some _ ∷ some _ ∷ some _ ∷ some _ ∷ some _ ∷ some _ ∷ some _ ∷ some _ ∷ []) $ free-rooms ! τs bs [] $ free0 ! $ keep ! (0 ∷ []) $
       by ! (ends ps 𝓤 H A (self.clauses 𝓤 H A mem run) κs qs x a tt W r (tt, tt) (had 𝓤 H A 1) (factI 𝓤 _ (emp 𝓤) (joined n h counts-fit readers-fit stations-fit r counts-are-so readers-are stations-are parts-are)))))))))))))
     where
       ok : Typed (tys ps) (args κs ps a)

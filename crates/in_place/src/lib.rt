@@ -1,5 +1,6 @@
-// The calls of document 01 on a record that stays where the main loop keeps it. Each takes the record
-// out, calls the function that takes and gives it by value, and puts the new record back.
+// The calls of document 01 on a record that stays where the main loop keeps it. Each takes out what it
+// needs, calls a function by value, and stores back what that hands back. None has a branch: a refused
+// call stores again what was there.
 ghost use mathlib.Core.Path.{_≡_};
 ghost use Rattle.answers.specs.Answers.{paperStart, paperEntry, paperStep, outcome};
 ghost use Rattle.reader_step.specs.Reader.{stepReader};

@@ -9,11 +9,11 @@ use Rattle.orders.proofs.KeptLaws.{stores-by-step}
 use Rattle.orders.proofs.kept_list.stores_now.Statement.{statement}
 use Rattle.orders.proofs.kept_list.stores_now.Tie as tie
 
-is-refused-requires : tie.Need-is-refused-requires
-is-refused-requires c κs = search needs
-
 writer-access-requires : tie.Need-writer-access-requires
 writer-access-requires c κs = search needs
+
+is-refused-requires : tie.Need-is-refused-requires
+is-refused-requires c κs = search needs
 
 stores-slot-requires : tie.Need-stores-slot-requires
 stores-slot-requires c κs = search needs
@@ -29,20 +29,20 @@ both-hold-requires-2 c κs = search needs
 
 returns : tie.Need-returns
 returns c frame =
-    let a = c .before .before .before .before .before .before .before .args in
+    let a = c .before .before .before .before .before .before .before .before .args in
     c .both-hold2 .ensures
     ∙ ap₂ both (c .before .is-writer-step .ensures)
     (c .before .before .both-hold .ensures
-    ∙ ap₂ both (ap not (c .before .before .before .before .before .is-refused .ensures))
-    (c .before .before .before .stores-slot .ensures ∙ ap storesSlot (c .before .before .before .before .writer-access .ensures)))
+    ∙ ap₂ both (ap not (c .before .before .before .before .is-refused .ensures))
+    (c .before .before .before .stores-slot .ensures ∙ ap storesSlot (c .before .before .before .before .before .writer-access .ensures)))
     ∙ stores-by-step (a .panel) (paperCall (a .answer)) frame (a .call)
 
 pub stores-now-spec : {M : Type 1} → statement M
 stores-now-spec =
     tie.close
     (tie.spec
-    is-refused-requires
     writer-access-requires
+    is-refused-requires
     stores-slot-requires
     both-hold-requires
     is-writer-step-requires

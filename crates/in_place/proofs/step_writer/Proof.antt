@@ -42,12 +42,9 @@ use denote.Triple.Table.{cited}
 use Rattle.answers.proofs.StepAnswer as StepAnswer
 use Rattle.answers.proofs.StepAnswer.Laws as StepAnswer′
 use Rattle.answers.specs.Answers.{Outcome, outcome, paperStep}
-use Rattle.effects.proofs.EffectLaws.{count-place-below}
 use Rattle.record.specs.declared.Record.{Record}
 use Rattle.record.specs.declared.Station.{Station as Station·Station}
 use Rattle.record.specs.Parts.{unheardStation, withReach, withCounts, withStations, withWriter}
-use Rattle.record.specs.declared.WriterWork.{WriterWork}
-use Rattle.record.proofs.Numbered.{place-below}
 use Rattle.record.proofs.Station as Station
 use Rattle.record.proofs.Station.Laws as Station′
 use Rattle.record.proofs.Writer as Writer
@@ -56,6 +53,7 @@ use Rattle.record_ranges.specs.Ranges.{inRange}
 use Rattle.writer.specs.Step.{stepWriter}
 use Rattle.writer.specs.Work.{WorkOutcome, stepWork, stationAt, StepStores, paperStores, stores}
 use Rattle.writer.proofs.StepInPlace.{storedIn, step-in-place}
+use Rattle.writer.proofs.WorkLaws.{station-at-below, count-stored-below}
 use Rattle.writer.proofs.work.SteppedWriter as Stepped
 use Rattle.writer.proofs.work.SteppedWriter.Laws as Stepped′
 use Rattle.writer.proofs.station_at as place
@@ -103,10 +101,6 @@ small k l = omega arith
 small-count : (k : ℕ) → k < 64 → k * 4 < 2 ^ 64
 small-count k l = omega arith
 
-station-at-inside : (work : WriterWork) → stationAt work < 32
-unfolding stationAt
-station-at-inside work = place-below 32 _ (omega arith)
-
 -- ---- the record once what a step hands back is stored, part by part
 module _ (h : Record) (at : ℕ) (next : Next) where
   abbrev h₁ : Record
@@ -139,8 +133,7 @@ module _ (h : Record) (before : List ℕ) where
 
   -- the place of the count is one of the counts'
   count-inside : (fit : Bool) (at : ℕ) (next : Next) (slots : List ℕ) → paperStores next slots ≡ handed fit at → next .at < 64
-  unfolding stores
-  count-inside fit at next slots next-is = subst (λ (k : ℕ). k < 64) (sym (ap (λ (s : StepStores). s .at) next-is)) (count-place-below _)
+  count-inside fit at next slots next-is = subst (λ (k : ℕ). k < 64) (sym (ap (λ (s : StepStores). s .at) next-is)) (count-stored-below (h .m) (h .reach) (h .counts) (found at) _)
 
 module _ {M : Type 1} (𝓤 : URA M) (H : Heap 𝓤) (A : Atoms 𝓤) (W : Given 𝓤 H A) (mem : Memory → SProp 𝓤) (run : Routine → Fun 𝓤) (𝓣 : Tables 𝓤 H)
     (met-fits : Triple 𝓤 (𝓣 .C #fits) (tripleOf 𝓤 H A fits.signature (fits.spec 𝓤 H A mem run))) (met-place : Triple 𝓤 (𝓣 .C #place) (tripleOf 𝓤 H A place.signature (place.spec 𝓤 H A mem run))) (met-step : Triple 𝓤 (𝓣 .C #step) (tripleOf 𝓤 H A step.signature (step.spec 𝓤 H A mem run)))
@@ -228,7 +221,7 @@ module _ {M : Type 1} (𝓤 : URA M) (H : Heap 𝓤) (A : Atoms 𝓤) (W : Given
       fm = fmOf 𝓤 H (W .laws) 𝓣
 
       inside : (at : ℕ) → at ≡ stationAt (h .writer .work) → at < 32
-      inside at e = subst (λ (k : ℕ). k < 32) (sym e) (station-at-inside (h .writer .work))
+      inside at e = subst (λ (k : ℕ). k < 32) (sym e) (station-at-below (h .writer .work))
 
       asked : Bool → ℕ → Denots (typesAt (step.signature .params) (κs .1))
       asked fit at = (fit, (h .m, (h .k, (h .reach, (h .counts, (h .writer, (found h before at, (a .0, tt))))))))

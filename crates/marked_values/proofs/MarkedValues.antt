@@ -12,7 +12,7 @@ use Rattle.answers.specs.Answers.{unlessRefused}
 use Rattle.plain_list.specs.PlainList.{Each}
 use Rattle.search.specs.Access.{wordRead}
 use Rattle.search.specs.Search.{searchAccess, firstProbe, nextProbe, holdsPoint, probeAdvance, searchAdvance}
-use Rattle.reader_step.specs.Reader.{readerAccess, lookupEnding, lookupEffect, lookupAdvance, readerAdvance, workRefusal, stepRefusal as Reader·stepRefusal, afterStep as Reader·afterStep, readerRuns, stepReader}
+use Rattle.reader_step.specs.Reader.{readerAccess, lookupEnding, lookupEffect, lookupAdvance, readerAdvance, workRefusal as Reader·workRefusal, stepRefusal as Reader·stepRefusal, afterStep as Reader·afterStep, readerRuns, stepReader}
 use Rattle.fresh_panel.specs.FreshPanel.{makeFresh}
 use Rattle.reader_starts.specs.Starts.{lookupWorkRefusal, lookupRefusal, startReader, startLookup}
 use Rattle.effects.specs.Memory.{storeWord, slotStored, accessRead, slotsAfter}
@@ -32,7 +32,7 @@ pub marked : Each Agrees markedValues
 unfolding both either within outside refuseIf z positionOf takenSlots freshRecord workOf withWork withReaders withWriter withReach numbered withNumbered countOf
     withCount withCounts validPoint searchInRange lookupInRange workInRange putStageInRange putInRange removalStageInRange removalInRange writerInRange all
     sizesInRange countsInRange readerInRange readersInRange stationInRange stationsInRange inRange unlessRefused wordRead searchAccess
-    firstProbe nextProbe holdsPoint probeAdvance searchAdvance readerAccess lookupEnding lookupEffect lookupAdvance readerAdvance workRefusal Reader·stepRefusal
+    firstProbe nextProbe holdsPoint probeAdvance searchAdvance readerAccess lookupEnding lookupEffect lookupAdvance readerAdvance Reader·workRefusal Reader·stepRefusal
     Reader·afterStep readerRuns stepReader makeFresh lookupWorkRefusal lookupRefusal startReader startLookup storeWord slotStored accessRead slotsAfter counted uncounted goesOn
     ends updated exceeds putStageAccess putAccess putAt putAnswered putSearched putScanned putTakes putStageAdvance putAdvance removalStageAccess
     removalAccess removalAt removalAnswered removalSearched isLast removalEmpties removalStageAdvance removalAdvance workAccess workAdvance

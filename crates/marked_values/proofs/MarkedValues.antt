@@ -7,7 +7,7 @@ use Rattle.slot_words.specs.Taken.{takenSlots}
 use Rattle.record.specs.Parts.{freshRecord, workOf, withWork, withWriter, withReach, numbered, withNumbered, countOf, withCount, withCounts, withReaders}
 use Rattle.slot_words.specs.Points.{validPoint}
 use Rattle.work_ranges.specs.WorkRanges.{searchInRange, lookupInRange, workInRange, putStageInRange, putInRange, removalStageInRange, removalInRange, writerInRange}
-use Rattle.record_ranges.specs.Ranges.{all, sizesInRange, countsInRange, readerInRange, readersInRange, stationInRange, stationsInRange, inRange}
+use Rattle.record_ranges.specs.Ranges.{all, sizesInRange, countsInRange, readerInRange, readersInRange, stationInRange, stationsInRange, partsInRange, inRange}
 use Rattle.answers.specs.Answers.{unlessRefused}
 use Rattle.plain_list.specs.PlainList.{Each}
 use Rattle.search.specs.Access.{wordRead}
@@ -31,7 +31,7 @@ use Rattle.marked_values.specs.Marked.{Agrees, runLine, run, answersOf, 
 pub marked : Each Agrees markedValues
 unfolding both either within outside refuseIf z positionOf takenSlots freshRecord workOf withWork withReaders withWriter withReach numbered withNumbered countOf
     withCount withCounts validPoint searchInRange lookupInRange workInRange putStageInRange putInRange removalStageInRange removalInRange writerInRange all
-    sizesInRange countsInRange readerInRange readersInRange stationInRange stationsInRange inRange unlessRefused wordRead searchAccess
+    sizesInRange countsInRange readerInRange readersInRange stationInRange stationsInRange partsInRange inRange unlessRefused wordRead searchAccess
     firstProbe nextProbe holdsPoint probeAdvance searchAdvance readerAccess lookupEnding lookupEffect lookupAdvance readerAdvance Reader·workRefusal Reader·stepRefusal
     Reader·afterStep readerRuns stepReader makeFresh lookupWorkRefusal lookupRefusal startReader startLookup storeWord slotStored accessRead slotsAfter counted uncounted goesOn
     ends updated exceeds putStageAccess putAccess putAt putAnswered putSearched putScanned putTakes putStageAdvance putAdvance removalStageAccess

@@ -26,11 +26,6 @@ abbrev pub past : List Ty → ℕ → ℕ
 past [] i = i
 past (τ ∷ τs) i = suc (past τs i)
 
--- the same past the entries of an environment
-abbrev pub beyond : List (Ty × ℕ) → ℕ → ℕ
-beyond [] i = i
-beyond (e ∷ F) i = suc (beyond F i)
-
 -- the locals from number i on, as operands
 abbrev pub copies : ℕ → List Ty → List Operand
 copies i [] = []
@@ -75,11 +70,7 @@ module _ (d : Ty × ℕ) where
   from-first [] bs E = tt
   from-first (τ ∷ τs) bs E = (refl, from-next (τ, bs .0) (env τs (bs .1) ++ E) 0 τs (bs .1) (from-first τs (bs .1) E))
 
-  -- the same behind other entries, and behind other locals
-  pub from-beyond : (F E : List (Ty × ℕ)) (i : ℕ) (τs : List Ty) (bs : Blocks τs) → From E i τs bs → From (F ++ E) (beyond F i) τs bs
-  from-beyond [] E i τs bs f = f
-  from-beyond (e ∷ F) E i τs bs f = from-next e (F ++ E) (beyond F i) τs bs (from-beyond F E i τs bs f)
-
+  -- they are so behind others too
   pub from-past : (σs : List Ty) (cs : Blocks σs) (E : List (Ty × ℕ)) (i : ℕ) (τs : List Ty) (bs : Blocks τs) → From E i τs bs → From (env σs cs ++ E) (past σs i) τs bs
   from-past [] cs E i τs bs f = f
   from-past (σ ∷ σs) cs E i τs bs f = from-next (σ, cs .0) (env σs (cs .1) ++ E) (past σs i) τs bs (from-past σs (cs .1) E i τs bs f)

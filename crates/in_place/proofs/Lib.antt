@@ -16,3 +16,4 @@ pub mod Steps
 pub mod Taken
 pub mod Tested
 pub mod Walk
+pub mod WriterPart

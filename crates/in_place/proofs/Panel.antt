@@ -15,6 +15,8 @@ use Rattle.record.proofs.Reader as Reader
 use Rattle.record.proofs.Reader.Laws as Reader′
 use Rattle.record.proofs.Record as Record
 use Rattle.record.proofs.Record.Laws as Record′
+use Rattle.record.proofs.Writer as Writer
+use Rattle.record.proofs.Writer.Laws as Writer′
 use Rattle.in_place.proofs.Outcome.{State, Answer, Outcome, OutcomeOf}
 
 abbrev panel : State
@@ -22,6 +24,9 @@ panel = record { type = Record.the-type; laws = Record′.the-laws; lowers = Rec
 
 abbrev pub reader : State
 reader = record { type = Reader.the-type; laws = Reader′.the-laws; lowers = Reader′.lowers; plain = Reader′.the-plain }
+
+abbrev pub writer : State
+writer = record { type = Writer.the-type; laws = Writer′.the-laws; lowers = Writer′.lowers; plain = Writer′.the-plain }
 
 abbrev pub start-answer : Answer
 start-answer = record { type = StartAnswer.the-type; laws = StartAnswer′.the-laws; few = tt; lowers = StartAnswer′.lowers; plain = StartAnswer′.the-plain }

@@ -17,6 +17,7 @@ use Rattle.record.proofs.Record as Record
 use Rattle.record.proofs.Record.Laws as Record′
 use Rattle.record.proofs.Writer as Writer
 use Rattle.record.proofs.Writer.Laws as Writer′
+use Rattle.writer.proofs.starts.StartedWriter as StartedWriter
 use Rattle.in_place.proofs.Outcome.{State, Answer, Outcome, OutcomeOf}
 
 abbrev panel : State
@@ -52,3 +53,7 @@ stepped-reader = record { answers = step-answer; name = SteppedReader.the-type .
 
 abbrev pub started-reader : OutcomeOf reader
 started-reader = record { answers = start-answer; name = StartedReader.the-type .name; D = StartedReader.the-type .D; state = λ r. r .reader; answer = λ r. r .answer; one = StartedReader.the-type .to-one }
+
+-- and the starts of the writer, the writer and an answer
+abbrev pub started-writer : OutcomeOf writer
+started-writer = record { answers = start-answer; name = StartedWriter.the-type .name; D = StartedWriter.the-type .D; state = λ r. r .writer; answer = λ r. r .answer; one = StartedWriter.the-type .to-one }

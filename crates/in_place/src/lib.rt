@@ -1,6 +1,6 @@
 // The calls of document 01 on a record that stays where the main loop keeps it. Each takes out what it
 // needs, calls a function by value, and stores back what that hands back. None has a branch: a refused
-// call stores again what was there.
+// call stores again what was there. A command's start takes out the whole record.
 ghost use mathlib.Core.Path.{_≡_};
 ghost use Rattle.answers.specs.Answers.{paperStart, paperEntry, paperStep, outcome};
 ghost use Rattle.reader_step.specs.Reader.{stepReader};
@@ -20,6 +20,9 @@ use reader_starts::walk_started;
 use reader_step::step_work;
 use record::Record;
 use record::parts::reader_place;
+use writer::change_started;
+use writer::put_started;
+use writer::removal_started;
 
 // Starts a reader's lookup of a point.
 pub fn start_lookup(panel: &mut Record, slots: &[u64], reader: u32, point: u32) -> StartAnswer
@@ -61,9 +64,11 @@ pub fn step_reader(panel: &mut Record, slots: &[u64], reader: u32) -> StepAnswer
 pub fn start_put(panel: &mut Record, slots: &[u64], point: u32, value: u32) -> StartAnswer
     ensures { λ r. ⌜ outcome (now (panel .exit)) (now (slots .entry)) (paperStart r) ≡ startPut (now (panel .entry)) (now (slots .entry)) point value ⌝ }
 {
-    let after = writer::start_put(*panel, slots, point, value);
-    *panel = after.panel;
-    after.answer
+    let fits = fits_at(panel, slots.len());
+    let writer = panel.writer;
+    let next = put_started(fits, writer, point, value);
+    panel.writer = next.writer;
+    next.answer
 }
 
 // Starts a change of a point's value to (value AND keep) XOR flip.
@@ -76,18 +81,22 @@ pub fn start_change(
 ) -> StartAnswer
     ensures { λ r. ⌜ outcome (now (panel .exit)) (now (slots .entry)) (paperStart r) ≡ startChange (now (panel .entry)) (now (slots .entry)) point keep flip ⌝ }
 {
-    let after = writer::start_change(*panel, slots, point, keep, flip);
-    *panel = after.panel;
-    after.answer
+    let fits = fits_at(panel, slots.len());
+    let writer = panel.writer;
+    let next = change_started(fits, writer, point, keep, flip);
+    panel.writer = next.writer;
+    next.answer
 }
 
 // Starts a removal of a point.
 pub fn start_removal(panel: &mut Record, slots: &[u64], point: u32) -> StartAnswer
     ensures { λ r. ⌜ outcome (now (panel .exit)) (now (slots .entry)) (paperStart r) ≡ startRemoval (now (panel .entry)) (now (slots .entry)) point ⌝ }
 {
-    let after = writer::start_removal(*panel, slots, point);
-    *panel = after.panel;
-    after.answer
+    let fits = fits_at(panel, slots.len());
+    let writer = panel.writer;
+    let next = removal_started(fits, writer, point);
+    panel.writer = next.writer;
+    next.answer
 }
 
 // Takes a station's command, as the bytes of its frame.

@@ -1,33 +1,27 @@
--- `in_place::start_put` meets its contract: of the record behind its reference it ensures what `writer::start_put` ensures of a record by value.
--- By the one walk of all such functions (`InPlace.antt`). What it asks is that the callee's clause gives the function's, that the code is the walk's, and that the callee meets its contract.
-use mathlib.Core.List.{[], _∷_, List}
-use mathlib.Core.Path.{refl}
-use base.Logic.{id⊢}
-use mir.Syntax.{w64}
+-- `in_place::start_put` meets its contract: `WriterPart.antt`'s start with `writer::put_started`.
+use mathlib.Core.Path.{refl, ap, _∙_}
+use contract.Running.{givenOf}
 use denote.Ref.{now}
+use denote.Triple.End.{lastsOf}
 use denote.Triple.Spec.{tripleOf}
 use denote.Triple.Table.{cited}
-use Rattle.writer.proofs.start_put as callee
-use Rattle.writer.proofs.start_put.Met as callee-thm
-use Rattle.writer.proofs.start_put.Symbol as callee-def
-use Rattle.writer.proofs.start_put.Symbol.{name as #callee}
-use Rattle.in_place.proofs.InPlace.{by-value, at-end, in-place}
-use Rattle.in_place.proofs.Panel.{start-outcome}
-use Rattle.in_place.proofs.Params.{Param, number, slice}
-use Rattle.in_place.proofs.Passing.{copied}
+use Rattle.writer.proofs.StartsInPlace.{startedIn, put-in-place}
+use Rattle.writer.proofs.put_started as callee
+use Rattle.writer.proofs.put_started.Met as callee-thm
+use Rattle.writer.proofs.put_started.Symbol as callee-def
+use Rattle.writer.proofs.put_started.Symbol.{name as #callee}
+use Rattle.in_place.proofs.Panel.{started-writer}
+use Rattle.in_place.proofs.Steps.{follows}
+use Rattle.in_place.proofs.WriterPart.{handed, handed-vals, writer-starts}
 use Rattle.in_place.proofs.start_put as self
 use Rattle.in_place.proofs.start_put.Code as code
 use Rattle.in_place.proofs.start_put.Key.{name as #self}
 use Rattle.in_place.proofs.start_put.Statement.{statement}
 
-abbrev ps : List (Param 2)
-ps = slice w64 1 tt ∷ number ∷ number ∷ []
-
 pub start-put-spec : {M : Type 1} → statement M
 unfolding code.routine
 start-put-spec 𝓤 H 𝓜 𝓖 𝓡 =
-    in-place start-outcome ps (copied ps) 𝓤 H 𝓜 𝓖 𝓡 (self.clauses 𝓤 H (𝓖 .A) (𝓜 .mem) (𝓡 .run))
-    (record { gives = λ κs x a r l. callee.clauses 𝓤 H (𝓖 .A) (𝓜 .mem) (𝓡 .run) (κs .1) (now x, a) .ensures tt r (at-end start-outcome ps κs x a l); so = λ κs x a γ r l. id⊢ 𝓤 _ })
-    code.env #self #callee code.function (code.unfolded 𝓤 H 𝓜 𝓡) refl
-    (λ κs qs x a γ. cited 𝓤 H (tripleOf 𝓤 H (𝓖 .A) callee.signature (callee.spec 𝓤 H (𝓖 .A) (𝓜 .mem) (𝓡 .run))) 𝓜 𝓡 code.env #callee callee-def.routine refl (callee-thm.met 𝓤 H 𝓜 𝓖 𝓡)
-    ((κs .1, qs .1, tt, (now x, a), by-value start-outcome ps κs x a), tt))
+    writer-starts started-writer 2 𝓤 H 𝓜 𝓖 𝓡 (record { clauses = self.clauses 𝓤 H (𝓖 .A) (𝓜 .mem) (𝓡 .run); routines = code.env; name = #self; code = code.function; closed = code.unfolded 𝓤 H 𝓜 𝓡; fits-is = refl }) #callee refl
+    (λ κs x a next. callee.spec 𝓤 H (𝓖 .A) (𝓜 .mem) (𝓡 .run) tt (handed 2 κs x a) .ensures tt next)
+    (λ κs x a. cited 𝓤 H (tripleOf 𝓤 H (𝓖 .A) callee.signature (callee.spec 𝓤 H (𝓖 .A) (𝓜 .mem) (𝓡 .run))) 𝓜 𝓡 code.env #callee callee-def.routine refl (callee-thm.met 𝓤 H 𝓜 𝓖 𝓡) ((tt, tt, tt, handed 2 κs x a, handed-vals 2 κs x a), tt))
+    (λ κs x a γ next. follows (givenOf 𝓤 H 𝓜 𝓖) (lastsOf tt (callee.signature .params) (callee.ended .kept) (handed 2 κs x a)) _ _ (λ next-is. ap (startedIn (now x) (a .0 .now)) next-is ∙ put-in-place (now x) (a .0 .now) (a .1 .0) (a .1 .1 .0)))

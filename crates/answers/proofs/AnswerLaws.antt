@@ -35,26 +35,26 @@ use Rattle.answers.specs.declared.TotalAnswer.{TotalAnswer}
 use Rattle.answers.specs.declared.TotalAnswer.the-variants.{Total, Refused as TotalAnswer·Refused}
 use Rattle.answers.specs.declared.DisplayAnswer.{DisplayAnswer}
 use Rattle.answers.specs.declared.DisplayAnswer.the-variants.{Shown, Refused as DisplayAnswer·Refused}
-use Rattle.answers.specs.Answers.{Ending, lookedUp, placed, changed, removed, endedWith, Answer, started, underway, ended, walked, walkedLast, givenAgain, gives, refused, Progress, continues, finishes, isStarted, isRefused, Outcome, outcome, unlessRefused, storedAnswer, paperEnding, paperProgress, paperResult, paperStep, paperStart, paperEntry, paperCall, paperWhole, paperFresh, paperTotal, paperDisplay}
+use Rattle.answers.specs.Answers.{Ending, lookedUp, placed, changed, removed, endedWith, Answer, started, underway, ended, walked, walkedLast, givenAgain, gives, refused, Progress, continues, finishes, isStarted, isRefused, unlessRefused, storedAnswer, paperEnding, paperProgress, paperResult, paperStep, paperStart, paperEntry, paperCall, paperWhole, paperFresh, paperTotal, paperDisplay}
 
-module _ (panel : Record) (slots : List ℕ) (done : Outcome) where
-  by-number : (n : ℕ) → 1 ≤ n → unlessRefused n panel slots done ≡ outcome panel slots (refused n)
+module _ {A : Type 0} (left : Answer → A) (done : A) where
+  by-number : (n : ℕ) → 1 ≤ n → unlessRefused n left done ≡ left (refused n)
   unfolding unlessRefused
   by-number zero h = absurd (omega arith)
   by-number (suc n) h = refl
 
-  pub refused-outcome : (r : Refusal) → unlessRefused (numberOf r) panel slots done ≡ outcome panel slots (refused (numberOf r))
-  refused-outcome r = by-number (numberOf r) (number-positive r)
+  pub refused-call : (r : Refusal) → unlessRefused (numberOf r) left done ≡ left (refused (numberOf r))
+  refused-call r = by-number (numberOf r) (number-positive r)
 
-  pub allowed-outcome : unlessRefused 0 panel slots done ≡ done
+  pub allowed-call : unlessRefused 0 left done ≡ done
   unfolding unlessRefused
-  allowed-outcome = refl
+  allowed-call = refl
 
--- a refused call leaves everything; so what holds of that, and of the call done where it is not refused, holds of the call
-pub unless : (P : Outcome → Type 0) (n : ℕ) (panel : Record) (slots : List ℕ) (done : Outcome) → ((answer : Answer) → P (outcome panel slots answer)) → (n ≡ 0 → P done) → P (unlessRefused n panel slots done)
+-- what holds of what a refused call leaves, and of the call done where it is not refused, holds of the call
+pub unless : {A : Type 0} (P : A → Type 0) (n : ℕ) (left : Answer → A) (done : A) → ((answer : Answer) → P (left answer)) → (n ≡ 0 → P done) → P (unlessRefused n left done)
 unfolding unlessRefused
-unless P zero panel slots done a b = b refl
-unless P (suc n) panel slots done a b = a _
+unless P zero left done a b = b refl
+unless P (suc n) left done a b = a _
 
 -- a step that is carried out is no refusal and no start
 pub result-not-refused : (result : StepResult) → isRefused (paperResult result) ≡ false

@@ -194,7 +194,7 @@ pub record Outcome : Type 0 where
 abbrev pub outcome : Record → List ℕ → Answer → Outcome
 outcome panel slots answer = record { panel = panel; slots = slots; answer = answer }
 
--- "All leave slots, buffers and record untouched": what a call comes to if it is refused with that number, or, where that is 0, as given
-unfoldable pub unlessRefused : ℕ → Record → List ℕ → Outcome → Outcome
-unlessRefused zero panel slots done = done
-unlessRefused (suc n) panel slots done = outcome panel slots (refused (suc n))
+-- "All leave slots, buffers and record untouched": a call that is refused with that number comes to what is left, with the refusal as its answer; where the number is 0, it is done
+unfoldable pub unlessRefused : {A : Type 0} → ℕ → (Answer → A) → A → A
+unlessRefused zero left done = done
+unlessRefused (suc n) left done = left (refused (suc n))

@@ -15,7 +15,7 @@ use Rattle.refusal.proofs.Laws.{number-positive}
 use Rattle.record.specs.declared.Record.{Record}
 use Rattle.record.specs.Parts.{stationOf}
 use Rattle.record_ranges.specs.Ranges.{inRange}
-use Rattle.answers.specs.Answers.{unlessRefused}
+use Rattle.answers.specs.Answers.{outcome, unlessRefused}
 use Rattle.frame.specs.declared.Kind.{Kind}
 use Rattle.frame.specs.declared.Fields.{Fields}
 use Rattle.frame.specs.declared.Reading.{Reading}
@@ -64,7 +64,7 @@ pub record-allowed : (lent : ℕ) (panel : Record) (bytes : List ℕ) → inRang
 unfolding entryRefusal refuseIf
 record-allowed lent panel bytes fits = rw fits
 
-received-outcome : (n : ℕ) (panel : Record) (slots : List ℕ) (sent : Sent) → answerReceived panel slots (receipt n sent) ≡ unlessRefused n panel slots (inTurn panel slots sent (stationOf panel (sent .station)))
+received-outcome : (n : ℕ) (panel : Record) (slots : List ℕ) (sent : Sent) → answerReceived panel slots (receipt n sent) ≡ unlessRefused n (outcome panel slots) (inTurn panel slots sent (stationOf panel (sent .station)))
 unfolding answerReceived receipt unlessRefused
 received-outcome zero panel slots sent = refl
 received-outcome (suc n) panel slots sent = refl
@@ -73,4 +73,4 @@ pub received-answered : (panel : Record) (slots bytes : List ℕ) → inRange (l
 unfolding receivedFrom startCommand
 received-answered panel slots bytes fits =
     received-outcome (frameRefusal bytes) panel slots (sentIn bytes)
-    ∙ ap (λ (n : ℕ). unlessRefused n panel slots (inTurn panel slots (sentIn bytes) (stationOf panel (sentIn bytes .station)))) (sym (record-allowed (length slots) panel bytes fits))
+    ∙ ap (λ (n : ℕ). unlessRefused n (outcome panel slots) (inTurn panel slots (sentIn bytes) (stationOf panel (sentIn bytes .station)))) (sym (record-allowed (length slots) panel bytes fits))

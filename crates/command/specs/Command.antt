@@ -51,7 +51,7 @@ commandedChange sent =
 -- "the change starts", ".., 4"
 unfoldable pub changeStarts : Record → List ℕ → Sent → Outcome
 changeStarts panel slots sent =
-    unlessRefused (refuseIf (not (isWriterIdle (panel .writer .work))) 4 0) panel slots (outcome (withWriter panel (commandedChange sent)) slots started)
+    unlessRefused (refuseIf (not (isWriterIdle (panel .writer .work))) 4 0) (outcome panel slots) (outcome (withWriter panel (commandedChange sent)) slots started)
 
 -- "Number equal to the last, point and action the same: the stored answer is given again and nothing is altered. Number equal, point or action different: 12"
 unfoldable pub numberEqual : Record → List ℕ → Sent → Station → Outcome
@@ -72,5 +72,5 @@ inTurn panel slots sent last =
 -- the command entry
 unfoldable pub startCommand : Record → List ℕ → List ℕ → Outcome
 startCommand panel slots bytes =
-    unlessRefused (entryRefusal (length slots) panel bytes) panel slots
+    unlessRefused (entryRefusal (length slots) panel bytes) (outcome panel slots)
     (inTurn panel slots (sentIn bytes) (stationOf panel (sentIn bytes .station)))

@@ -4,7 +4,7 @@ use mathlib.Core.List.{List}
 use Rattle.refusal.specs.Refusals.{numberOf}
 use Rattle.record.specs.declared.Record.{Record}
 use Rattle.record.specs.Parts.{stationOf}
-use Rattle.answers.specs.Answers.{Outcome, unlessRefused}
+use Rattle.answers.specs.Answers.{Outcome, outcome, unlessRefused}
 use Rattle.command.specs.declared.Sent.{Sent}
 use Rattle.command.specs.declared.Received.{Received}
 use Rattle.command.specs.declared.Received.the-variants.{Command, Refused}
@@ -36,4 +36,4 @@ receivedFrom bytes = receipt (frameRefusal bytes) (sentIn bytes)
 -- the answer to what was received
 unfoldable pub answerReceived : Record → List ℕ → Receipt → Outcome
 answerReceived panel slots received =
-    unlessRefused (received .refused) panel slots (inTurn panel slots (received .sent) (stationOf panel (received .sent .station)))
+    unlessRefused (received .refused) (outcome panel slots) (inTurn panel slots (received .sent) (stationOf panel (received .sent .station)))

@@ -120,7 +120,7 @@ module _ (world : World) (inv : Inv (world .panel .m) (world .panel .k) world) w
       }
 
   -- a call whose refusal is the one due
-  pub judged : (call : Call) (frame : List ℕ) (n : ℕ) (after : Outcome) → n ≡ refusalDue (world .log) call frame → (n ≡ 0 → Done world call frame after) → Kept world call frame (unlessRefused n panel slots after)
+  pub judged : (call : Call) (frame : List ℕ) (n : ℕ) (after : Outcome) → n ≡ refusalDue (world .log) call frame → (n ≡ 0 → Done world call frame after) → Kept world call frame (unlessRefused n (outcome panel slots) after)
   unfolding unlessRefused
   judged call frame zero after due done = done-kept call frame after (sym due) (done refl)
   judged call frame (suc n) after due done = refused-kept call frame n (sym due)

@@ -205,7 +205,7 @@ module _ (world : World) (inv : Inv (world .panel .m) (world .panel .k) world) w
           })
           idle (with-writer-in-range (length slots) panel (inv .fits) (commandedChange sent) (change-in-range k sent valid))
 
-      by-idle : eqb (sent .number) (last .number) ≡ false → eqb (sent .number) (last .number + 1) ≡ true → (idle : Bool) → isWriterIdle (panel .writer .work) ≡ idle → Kept world StartCommand bytes (unlessRefused (refuseIf (not idle) 4 0) panel slots (outcome (withWriter panel (commandedChange sent)) slots started))
+      by-idle : eqb (sent .number) (last .number) ≡ false → eqb (sent .number) (last .number + 1) ≡ true → (idle : Bool) → isWriterIdle (panel .writer .work) ≡ idle → Kept world StartCommand bytes (unlessRefused (refuseIf (not idle) 4 0) (outcome panel slots) (outcome (withWriter panel (commandedChange sent)) slots started))
       unfolding refuseIf unlessRefused roleOf
       by-idle other next true e =
           done-kept world inv StartCommand bytes _ (due-by false _ true true other refl next e)
@@ -242,7 +242,7 @@ module _ (world : World) (inv : Inv (world .panel .m) (world .panel .k) world) w
       by-number true e = by-content e _ refl
       by-number false e = by-next e _ refl
 
-    by-frame : (n : ℕ) → frameRefusal bytes ≡ n → Kept world StartCommand bytes (unlessRefused n panel slots (inTurn panel slots sent last))
+    by-frame : (n : ℕ) → frameRefusal bytes ≡ n → Kept world StartCommand bytes (unlessRefused n (outcome panel slots) (inTurn panel slots sent last))
     unfolding unlessRefused inTurn
     by-frame zero e = by-number e _ refl
     by-frame (suc n) e = refused-frame n e

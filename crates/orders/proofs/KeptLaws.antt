@@ -146,7 +146,7 @@ unfolding startCommand entryRefusal unlessRefused
 started-frame panel slots bytes e =
     not-refused (not (inRange (length slots) panel)) 1 (frameRefusal bytes) (omega arith) (go (entryRefusal (length slots) panel bytes) _ e) .1
   where
-    go : (n : ℕ) (done : Outcome) → isStarted (unlessRefused n panel slots done .answer) ≡ true → n ≡ 0
+    go : (n : ℕ) (done : Outcome) → isStarted (unlessRefused n (outcome panel slots) done .answer) ≡ true → n ≡ 0
     go zero done e = refl
     go (suc n) done e = absurd (false≢true e)
 

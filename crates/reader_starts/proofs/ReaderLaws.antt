@@ -62,11 +62,11 @@ module _ (reader : ℕ) (panel : Record) (slots : List ℕ) where
 
   pub step-leaves : OnlyWorkOf reader panel slots (stepReader panel slots reader)
   unfolding stepReader readerRuns afterStep
-  step-leaves = unless (OnlyWorkOf reader panel slots) (stepRefusal (length slots) panel reader) panel slots _ untouched (λ e. replaced _ _)
+  step-leaves = unless (OnlyWorkOf reader panel slots) (stepRefusal (length slots) panel reader) (outcome panel slots) _ untouched (λ e. replaced _ _)
 
   start-leaves : (n : ℕ) (work : ReaderWork) → OnlyWorkOf reader panel slots (startReader n panel slots reader work)
   unfolding startReader
-  start-leaves n work = unless (OnlyWorkOf reader panel slots) n panel slots _ untouched (λ e. replaced work started)
+  start-leaves n work = unless (OnlyWorkOf reader panel slots) n (outcome panel slots) _ untouched (λ e. replaced work started)
 
   pub lookup-leaves : (point : ℕ) → OnlyWorkOf reader panel slots (startLookup panel slots reader point)
   unfolding startLookup
@@ -115,7 +115,7 @@ module _ (panel : Record) (slots : List ℕ) (reader : ℕ) (fits : inRange (len
   pub step-in-range : inRange (length slots) (stepReader panel slots reader .panel) ≡ true
   unfolding stepReader readerRuns afterStep kept
   step-in-range =
-      unless kept (stepRefusal (length slots) panel reader) panel slots _ (λ answer. fits)
+      unless kept (stepRefusal (length slots) panel reader) (outcome panel slots) _ (λ answer. fits)
       (λ e.
       with-work-in-range (length slots) panel fits reader _
       (advances (panel .m) (panel .k) (panel .reach) (workOf panel reader) _ (fields (length slots) panel fits .reach-fits)
@@ -123,7 +123,7 @@ module _ (panel : Record) (slots : List ℕ) (reader : ℕ) (fits : inRange (len
 
   start-in-range : (n : ℕ) (work : ReaderWork) → (n ≡ 0 → workInRange (panel .m) (panel .k) work ≡ true) → inRange (length slots) (startReader n panel slots reader work .panel) ≡ true
   unfolding startReader kept
-  start-in-range n work h = unless kept n panel slots _ (λ answer. fits) (λ e. with-work-in-range (length slots) panel fits reader work (h e))
+  start-in-range n work h = unless kept n (outcome panel slots) _ (λ answer. fits) (λ e. with-work-in-range (length slots) panel fits reader work (h e))
 
   pub lookup-start-in-range : (point : ℕ) → inRange (length slots) (startLookup panel slots reader point .panel) ≡ true
   unfolding startLookup lookupRefusal lookupWorkRefusal workInRange lookupInRange searchInRange

@@ -12,7 +12,7 @@ use Rattle.record.specs.Idle.{isReaderIdle}
 use Rattle.record_ranges.specs.Ranges.{inRange}
 use Rattle.slot_words.specs.Points.{validPoint}
 use Rattle.answers.specs.Answers.{started, outcome}
-use Rattle.reader_step.specs.Reader.{afterStep}
+use Rattle.reader_step.specs.Reader.{effectOf, afterStep}
 use Rattle.reader_step.proofs.StepWork.{by-work, in-place}
 use Rattle.reader_starts.specs.Starts.{lookupWorkRefusal, walkWorkRefusal, lookupRefusal, walkRefusal, newLookup, newWalk, givenWork, lookupWork, walkWork, startReader, startLookup, startWalk}
 
@@ -32,7 +32,7 @@ module _ (panel : Record) (slots : List ℕ) (reader : ℕ) where
   unfolding lookupWork lookupWorkRefusal givenWork startLookup lookupRefusal startReader afterStep
   lookup-in-place point =
       in-place panel slots reader (λ (work : ReaderWork). refuseIf (not (validPoint point)) 2 (refuseIf (not (isReaderIdle work)) 4 0))
-      (λ (work : ReaderWork). record { work = newLookup point; answer = started })
+      (λ (work : ReaderWork). effectOf (newLookup point) started)
       (inRange (length slots) panel)
 
   pub walk-in-place :
@@ -41,5 +41,5 @@ module _ (panel : Record) (slots : List ℕ) (reader : ℕ) where
   unfolding walkWork walkWorkRefusal givenWork startWalk walkRefusal startReader afterStep
   walk-in-place =
       in-place panel slots reader (λ (work : ReaderWork). refuseIf (not (isReaderIdle work)) 4 0)
-      (λ (work : ReaderWork). record { work = newWalk; answer = started })
+      (λ (work : ReaderWork). effectOf newWalk started)
       (inRange (length slots) panel)

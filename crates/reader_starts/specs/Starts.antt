@@ -14,7 +14,7 @@ use Rattle.record_ranges.specs.Ranges.{inRange}
 use Rattle.slot_words.specs.Points.{validPoint}
 use Rattle.answers.specs.Answers.{started, Outcome, outcome, unlessRefused, paperStart}
 use Rattle.record.specs.Idle.{isReaderIdle}
-use Rattle.reader_step.specs.Reader.{ReaderEffect, effectUnless}
+use Rattle.reader_step.specs.Reader.{ReaderEffect, effectOf}
 use Rattle.reader_starts.specs.declared.StartedReader.{StartedReader}
 
 -- "starting a lookup 1, 3, 2, 4", of a reader with this work, by whether the record is in range
@@ -45,7 +45,7 @@ newWalk = Walking (record { next = 0 })
 
 -- the reader is given its work, unless the call is refused with that number
 unfoldable pub startReader : ℕ → Record → List ℕ → ℕ → ReaderWork → Outcome
-startReader n panel slots reader work = unlessRefused n panel slots (outcome (withWork panel reader work) slots started)
+startReader n panel slots reader work = unlessRefused n (outcome panel slots) (outcome (withWork panel reader work) slots started)
 
 -- starting a lookup
 unfoldable pub startLookup : Record → List ℕ → ℕ → ℕ → Outcome
@@ -62,7 +62,7 @@ paperStarted after = record { work = after .reader .work; answer = paperStart (a
 
 -- a reader with this work is given new work, unless the call is refused with that number
 unfoldable pub givenWork : ℕ → ReaderWork → ReaderWork → ReaderEffect
-givenWork n work new = effectUnless n work (record { work = new; answer = started })
+givenWork n work new = unlessRefused n (effectOf work) (effectOf new started)
 
 -- starting a lookup by what it needs: whether the record is in range, and the reader's work
 unfoldable pub lookupWork : Bool → ℕ → ℕ → ReaderWork → ReaderEffect

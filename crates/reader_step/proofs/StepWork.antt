@@ -1,15 +1,11 @@
 -- A reader's call by what it needs is the call on the whole record: of the reader's work, and in the place of that work.
-use Prim.Native.Nat.{ℕ, zero, suc, _≤_}
+use Prim.Native.Nat.{ℕ, zero, suc}
 use mathlib.Core.Path.{_≡_, refl, _∙_, ap}
 use mathlib.Core.Bool.{Bool, true, false, not}
 use mathlib.Core.List.{List}
-use native.Mathlib.Omega.{arith}
 use lib.Dec.{ltb}
 use lib.ListN.{getD, set, length}
-use Rattle.refusal.specs.declared.Refusal.{Refusal}
-use Rattle.refusal.specs.Refusals.{numberOf}
 use Rattle.refusal.specs.Judging.{refuseIf}
-use Rattle.refusal.proofs.Laws.{number-positive}
 use Rattle.record.specs.declared.Record.{Record}
 use Rattle.record.specs.declared.ReaderWork.{ReaderWork}
 use Rattle.record.specs.Parts.{idleReader, readerWith, workOf, withReaders, withWork, readerPlace}
@@ -17,26 +13,13 @@ use Rattle.record.specs.Idle.{isReaderIdle}
 use Rattle.record.proofs.WorkLaws.{same-work, reader-place-known}
 use Rattle.record_ranges.specs.Ranges.{inRange}
 use Rattle.answers.specs.Answers.{Outcome, outcome, refused, unlessRefused}
-use Rattle.reader_step.specs.Reader.{ReaderEffect, readerAccess, readerAdvance, workRefusal, stepRefusal, effectUnless, stepWork, afterStep, readerRuns, stepReader}
+use Rattle.reader_step.specs.Reader.{ReaderEffect, effectOf, readerAccess, readerAdvance, workRefusal, stepRefusal, stepWork, afterStep, readerRuns, stepReader}
 use Rattle.search.specs.Access.{wordRead}
-
-module _ (work : ReaderWork) (effect : ReaderEffect) where
-  by-number : (n : ℕ) → 1 ≤ n → effectUnless n work effect ≡ record { work = work; answer = refused n }
-  unfolding effectUnless
-  by-number zero h = absurd (omega arith)
-  by-number (suc n) h = refl
-
-  pub refused-effect : (r : Refusal) → effectUnless (numberOf r) work effect ≡ record { work = work; answer = refused (numberOf r) }
-  refused-effect r = by-number (numberOf r) (number-positive r)
-
-  pub allowed-effect : effectUnless 0 work effect ≡ effect
-  unfolding effectUnless
-  allowed-effect = refl
 
 module _ (panel : Record) (slots : List ℕ) (reader : ℕ) where
   -- a refused call leaves the work, and so the record
-  pub by-work : (n : ℕ) (effect : ReaderEffect) → afterStep panel slots reader (effectUnless n (workOf panel reader) effect) ≡ unlessRefused n panel slots (afterStep panel slots reader effect)
-  unfolding afterStep effectUnless unlessRefused
+  pub by-work : (n : ℕ) (effect : ReaderEffect) → afterStep panel slots reader (unlessRefused n (effectOf (workOf panel reader)) effect) ≡ unlessRefused n (outcome panel slots) (afterStep panel slots reader effect)
+  unfolding afterStep unlessRefused
   by-work zero effect = refl
   by-work (suc n) effect = ap (λ (p : Record). outcome p slots (refused (suc n))) (same-work panel reader (workOf panel reader) refl)
 
@@ -51,7 +34,7 @@ module _ (panel : Record) (slots : List ℕ) (reader : ℕ) (later : ReaderWork 
   refusalOf fits above work = refuseIf (not fits) 1 (refuseIf above 3 (later work))
 
   abbrev done : Bool → Bool → ℕ → Outcome
-  done fits above at = unlessRefused (refusalOf fits above (workOf panel at)) panel slots (afterStep panel slots at (effect (workOf panel at)))
+  done fits above at = unlessRefused (refusalOf fits above (workOf panel at)) (outcome panel slots) (afterStep panel slots at (effect (workOf panel at)))
 
   same-place : (above fits : Bool) → ltb 15 reader ≡ above → done fits above (readerPlace reader) ≡ done fits above reader
   unfolding refuseIf unlessRefused
@@ -62,7 +45,7 @@ module _ (panel : Record) (slots : List ℕ) (reader : ℕ) (later : ReaderWork 
   pub in-place :
       (fits : Bool)
       → let work = getD (panel .readers) (readerPlace reader) idleReader .work in
-      let e = effectUnless (refusalOf fits (ltb 15 reader) work) work (effect work) in
+      let e = unlessRefused (refusalOf fits (ltb 15 reader) work) (effectOf work) (effect work) in
       outcome (withReaders panel (set (panel .readers) (readerPlace reader) (readerWith (e .work)))) slots (e .answer)
       ≡ done fits (ltb 15 reader) reader
   unfolding afterStep withWork workOf

@@ -1,5 +1,5 @@
 -- Document 01, "Steps": a reader's step of a lookup or of a walk.
-use Prim.Native.Nat.{ℕ, zero, suc, _+_}
+use Prim.Native.Nat.{ℕ, _+_}
 use mathlib.Core.Bool.{Bool, cond, not}
 use mathlib.Core.List.{List}
 use lib.Dec.{ltb}
@@ -21,7 +21,7 @@ use Rattle.search.specs.declared.SearchAnswer.{SearchAnswer}
 use Rattle.search.specs.declared.SearchAnswer.the-variants.{Found, Unknown}
 use Rattle.reader_step.specs.declared.Effect.{Effect}
 use Rattle.reader_step.specs.declared.SteppedReader.{SteppedReader}
-use Rattle.answers.specs.Answers.{Ending, lookedUp, endedWith, Answer, underway, ended, walked, walkedLast, refused, Outcome, outcome, unlessRefused, paperResult, paperStep}
+use Rattle.answers.specs.Answers.{Ending, lookedUp, endedWith, Answer, underway, ended, walked, walkedLast, Outcome, outcome, unlessRefused, paperResult, paperStep}
 use Rattle.search.specs.Access.{wordRead}
 use Rattle.search.specs.Search.{searchAccess, searchAdvance}
 
@@ -35,6 +35,10 @@ readerAccess m (Walking walk) = Slot (walk .next)
 pub record ReaderEffect : Type 0 where
   pub work : ReaderWork
   pub answer : Answer
+
+-- the two together
+abbrev pub effectOf : ReaderWork → Answer → ReaderEffect
+effectOf work answer = record { work = work; answer = answer }
 
 -- the same in the code's enum
 abbrev pub paperEffect : Effect → ReaderEffect
@@ -78,15 +82,10 @@ workRefusal fits reader work = refuseIf (not fits) 1 (refuseIf (ltb 15 reader) 3
 unfoldable pub stepRefusal : ℕ → Record → ℕ → ℕ
 stepRefusal lent panel reader = workRefusal (inRange lent panel) reader (workOf panel reader)
 
--- what a call comes to for a reader if it is refused with that number: it leaves the work; or, where that is 0, as given
-unfoldable pub effectUnless : ℕ → ReaderWork → ReaderEffect → ReaderEffect
-effectUnless zero work effect = effect
-effectUnless (suc n) work effect = record { work = work; answer = refused (suc n) }
-
 -- a reader's step by what it needs: whether the record is in range, m, the reach, the reader's work and the slots
 unfoldable pub stepWork : Bool → ℕ → ℕ → ℕ → ReaderWork → List ℕ → ReaderEffect
 stepWork fits reader m reach work slots =
-    effectUnless (workRefusal fits reader work) work (readerAdvance m reach work (wordRead slots (readerAccess m work)))
+    unlessRefused (workRefusal fits reader work) (effectOf work) (readerAdvance m reach work (wordRead slots (readerAccess m work)))
 
 -- the reader's new work in its place, and the answer
 unfoldable pub afterStep : Record → List ℕ → ℕ → ReaderEffect → Outcome
@@ -100,4 +99,4 @@ readerRuns panel slots reader work =
 -- a reader's step
 unfoldable pub stepReader : Record → List ℕ → ℕ → Outcome
 stepReader panel slots reader =
-    unlessRefused (stepRefusal (length slots) panel reader) panel slots (readerRuns panel slots reader (workOf panel reader))
+    unlessRefused (stepRefusal (length slots) panel reader) (outcome panel slots) (readerRuns panel slots reader (workOf panel reader))

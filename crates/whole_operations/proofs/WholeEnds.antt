@@ -40,7 +40,7 @@ stays-at-work now p e = takes-one now p e .0
 
 -- an operation with as many steps as its budget
 module _ (panel : Record) (slots : List ℕ) (point budget : ℕ) (work : WriterWork) (enough : writerLeft (panel .k) (panel .reach) work ≤ budget) (working : isWriterIdle work ≡ false) where
-  ends-by : (n : ℕ) → Begun (unlessRefused n panel slots (outcome (withWriter panel work) slots started)) → isUnderway (untilEnded writerStep budget (unlessRefused n panel slots (outcome (withWriter panel work) slots started)) .answer) ≡ false
+  ends-by : (n : ℕ) → Begun (unlessRefused n (outcome panel slots) (outcome (withWriter panel work) slots started)) → isUnderway (untilEnded writerStep budget (unlessRefused n (outcome panel slots) (outcome (withWriter panel work) slots started)) .answer) ≡ false
   unfolding unlessRefused withWriter left
   ends-by zero begun =
       budget-suffices writerStep AtWork left takes-one budget (outcome (withWriter panel work) slots started)

@@ -35,7 +35,7 @@ use Rattle.search.specs.declared.SearchAnswer.{SearchAnswer}
 use Rattle.search.specs.declared.SearchAnswer.the-variants.{Found, Unknown}
 use Rattle.search.specs.Access.{wordRead}
 use Rattle.answers.specs.Answers.{Answer, started, underway, refused, walked, walkedLast, isUnderway, Outcome, outcome, unlessRefused, ended}
-use Rattle.answers.proofs.AnswerLaws.{allowed-outcome}
+use Rattle.answers.proofs.AnswerLaws.{allowed-call}
 use Rattle.search.specs.Search.{searchAccess, searchAdvance}
 use Rattle.record.specs.Idle.{isReaderIdle}
 use Rattle.reader_step.specs.Reader.{readerAccess, ReaderEffect, lookupEnding, lookupEffect, lookupAdvance, walkAdvance, readerAdvance, workRefusal, stepRefusal, afterStep, readerRuns, stepReader}
@@ -195,7 +195,7 @@ pub whole-lookup-ends : (panel : Record) (slots : List ℕ) (reader point : ℕ)
 unfolding wholeLookup startLookup startReader unlessRefused work
 whole-lookup-ends panel slots reader point h = go (lookupRefusal (length slots) panel reader point) refl
   where
-    go : (n : ℕ) → lookupRefusal (length slots) panel reader point ≡ n → isUnderway (untilEnded (readerStep reader) (panel .k + 1) (unlessRefused n panel slots (outcome (withWork panel reader (LookingUp (record { point = point; search = Unread }))) slots started)) .answer) ≡ false
+    go : (n : ℕ) → lookupRefusal (length slots) panel reader point ≡ n → isUnderway (untilEnded (readerStep reader) (panel .k + 1) (unlessRefused n (outcome panel slots) (outcome (withWork panel reader (LookingUp (record { point = point; search = Unread }))) slots started)) .answer) ≡ false
     go zero e =
         budget-suffices (readerStep reader) (AtWork reader) (left reader) (takes-one reader) (panel .k + 1)
         (outcome (withWork panel reader (work panel slots reader point e)) slots started) (begins panel slots reader point e h)
@@ -228,7 +228,7 @@ module _ (panel : Record) (slots : List ℕ) (reader point : ℕ) (sixteen : len
   same-start =
       let begun = outcome (withWork panel reader (LookingUp (record { point = point; search = Unread }))) slots started in
       same-step (readerStep reader) (panel .k + 1) (going Unread) begun (omega arith) refl refl refl
-      ∙ ap (untilEnded (readerStep reader) (panel .k + 1)) (sym (ap (λ (n : ℕ). unlessRefused n panel slots begun) e ∙ allowed-outcome panel slots begun))
+      ∙ ap (untilEnded (readerStep reader) (panel .k + 1)) (sym (ap (λ (n : ℕ). unlessRefused n (outcome panel slots) begun) e ∙ allowed-call (outcome panel slots) begun))
 
   pub looks-up : outcome panel slots (ended (lookupEnding (searchEnd slots (panel .m) point (panel .reach) (suc (panel .reach)) Unread))) ≡ wholeLookup panel slots reader point
   unfolding searchInRange searchLeft

@@ -17,7 +17,7 @@ use Rattle.slot_words.specs.Points.{validPoint}
 use Rattle.record_ranges.specs.Ranges.{inRange}
 use Rattle.record_ranges.proofs.Laws.{reach-high}
 use Rattle.answers.specs.Answers.{Answer, started, underway, refused, isUnderway, Outcome, outcome, unlessRefused}
-use Rattle.answers.proofs.AnswerLaws.{refused-outcome, allowed-outcome}
+use Rattle.answers.proofs.AnswerLaws.{refused-call, allowed-call}
 use Rattle.record.specs.Idle.{isWriterIdle}
 use Rattle.writer.specs.Starts.{workStartRefusal, startRefusal, startWriter}
 use Rattle.writer.specs.WriterFacts.{Begun}
@@ -38,13 +38,13 @@ module _ (panel : Record) (slots : List ℕ) (point : ℕ) (work : WriterWork) (
   pub run-refused : (refusal : Refusal) → startRefusal (length slots) panel point ≡ numberOf refusal → outcome panel slots (refused (numberOf refusal)) ≡ untilEnded writerStep budget (startWriter panel slots point work)
   unfolding startWriter begun
   run-refused refusal e =
-      let stopped = ap (λ (n : ℕ). unlessRefused n panel slots begun) e ∙ refused-outcome panel slots begun refusal in
+      let stopped = ap (λ (n : ℕ). unlessRefused n (outcome panel slots) begun) e ∙ refused-call (outcome panel slots) begun refusal in
       sym (has-ended writerStep budget (outcome panel slots (refused (numberOf refusal))) refl) ∙ ap (untilEnded writerStep budget) (sym stopped)
 
   module _ (e : startRefusal (length slots) panel point ≡ 0) where
     allowed : startWriter panel slots point work ≡ begun
     unfolding startWriter begun
-    allowed = ap (λ (n : ℕ). unlessRefused n panel slots begun) e ∙ allowed-outcome panel slots begun
+    allowed = ap (λ (n : ℕ). unlessRefused n (outcome panel slots) begun) e ∙ allowed-call (outcome panel slots) begun
 
     judged : (inRange (length slots) panel ≡ true) × (panel .writer .work ≡ Idle)
     unfolding startRefusal workStartRefusal

@@ -1,32 +1,15 @@
--- What a start hands back, stored in the record, makes of it what the start makes of the record; and a refused start leaves the work.
-use Prim.Native.Nat.{ℕ, zero, suc, _≤_}
+-- What a start hands back, stored in the record, makes of it what the start makes of the record.
+use Prim.Native.Nat.{ℕ, zero, suc}
 use mathlib.Core.Path.{_≡_, refl, ap, _∙_}
 use mathlib.Core.Bool.{Bool}
 use mathlib.Core.List.{List}
-use native.Mathlib.Omega.{arith}
 use lib.ListN.{length}
-use Rattle.refusal.specs.declared.Refusal.{Refusal}
-use Rattle.refusal.specs.Refusals.{numberOf}
-use Rattle.refusal.proofs.Laws.{number-positive}
 use Rattle.record.specs.declared.Record.{Record}
 use Rattle.record.specs.declared.WriterWork.{WriterWork}
 use Rattle.record.specs.Parts.{withWriter}
 use Rattle.record_ranges.specs.Ranges.{inRange}
-use Rattle.answers.specs.Answers.{Answer, started, refused, Outcome, outcome, unlessRefused}
-use Rattle.writer.specs.Starts.{startRefusal, startWriter, putBegun, changeBegun, removalBegun, startPut, startChange, startRemoval, StartedWork, newUnless, startWork}
-
-module _ (work new : WriterWork) where
-  by-number : (n : ℕ) → 1 ≤ n → newUnless n work new ≡ record { work = work; answer = refused n }
-  unfolding newUnless
-  by-number zero h = absurd (omega arith)
-  by-number (suc n) h = refl
-
-  pub refused-start : (r : Refusal) → newUnless (numberOf r) work new ≡ record { work = work; answer = refused (numberOf r) }
-  refused-start r = by-number (numberOf r) (number-positive r)
-
-  pub allowed-start : newUnless 0 work new ≡ record { work = new; answer = started }
-  unfolding newUnless
-  allowed-start = refl
+use Rattle.answers.specs.Answers.{Answer, started, Outcome, outcome, unlessRefused}
+use Rattle.writer.specs.Starts.{startRefusal, startWriter, putBegun, changeBegun, removalBegun, startPut, startChange, startRemoval, StartedWork, startedWork, startWork}
 
 -- the record with what a start hands back stored in it, the slots and the answer
 abbrev pub startedIn : Record → List ℕ → StartedWork → Outcome
@@ -34,10 +17,10 @@ startedIn panel slots next = outcome (withWriter panel (next .work)) slots (next
 
 module _ (panel : Record) (slots : List ℕ) (point : ℕ) where
   pub start-in-place : (new : WriterWork) → startedIn panel slots (startWork (inRange (length slots) panel) (panel .writer .work) point new) ≡ startWriter panel slots point new
-  unfolding startWork startWriter startRefusal newUnless unlessRefused withWriter
+  unfolding startWork startWriter startRefusal unlessRefused withWriter
   start-in-place new = stands (startRefusal (length slots) panel point)
     where
-      stands : (n : ℕ) → startedIn panel slots (newUnless n (panel .writer .work) new) ≡ unlessRefused n panel slots (outcome (withWriter panel new) slots started)
+      stands : (n : ℕ) → startedIn panel slots (unlessRefused n (startedWork (panel .writer .work)) (startedWork new started)) ≡ unlessRefused n (outcome panel slots) (outcome (withWriter panel new) slots started)
       stands zero = refl
       stands (suc n) = refl
 

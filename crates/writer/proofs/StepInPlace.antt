@@ -11,7 +11,7 @@ use Rattle.answers.specs.Answers.{refused, stepAnswer, Outcome, outcome, unless
 use Rattle.effects.specs.Memory.{slotStored, accessRead, slotsAfter}
 use Rattle.effects.proofs.EffectLaws.{same-in-parts, updated-in-parts}
 use Rattle.writer.specs.Step.{writerAccess, writerAdvance, stepRefusal, afterStep, writerRuns, stepWriter}
-use Rattle.writer.specs.Work.{WorkOutcome, workUnless, afterAccess, workRuns, stepWork, stationAt, StepStores, stores}
+use Rattle.writer.specs.Work.{WorkOutcome, workLeft, afterAccess, workRuns, stepWork, stationAt, StepStores, stores}
 use Rattle.writer.proofs.WriterLaws.{at-work, run-update-fits}
 
 -- the record with what a step hands back stored in it, the station's last command at this place; the slots and the answer
@@ -31,8 +31,8 @@ module _ (panel : Record) (slots : List ℕ) where
   abbrev handsBack : WorkOutcome → StepStores
   handsBack after = stores (panel .m) (panel .reach) (panel .counts) (getD (panel .stations) place unheardStation) after
 
-  by-number : (n : ℕ) → stepRefusal (length slots) panel ≡ n → storedIn panel place (handsBack (workUnless n (panel .writer .work) slots (workRuns (panel .m) (panel .k) (panel .reach) (panel .counts) (panel .writer .work) slots))) ≡ unlessRefused n panel slots (writerRuns panel slots (panel .writer .work))
-  unfolding workUnless unlessRefused stores workRuns afterAccess writerRuns afterStep withWriter
+  by-number : (n : ℕ) → stepRefusal (length slots) panel ≡ n → storedIn panel place (handsBack (unlessRefused n (workLeft (panel .writer .work) slots) (workRuns (panel .m) (panel .k) (panel .reach) (panel .counts) (panel .writer .work) slots))) ≡ unlessRefused n (outcome panel slots) (writerRuns panel slots (panel .writer .work))
+  unfolding unlessRefused stores workRuns afterAccess writerRuns afterStep withWriter
   by-number zero e =
       let w = at-work panel slots e in
       let access = writerAccess panel (panel .writer .work) in

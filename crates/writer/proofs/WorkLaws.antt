@@ -1,34 +1,15 @@
--- A refused step leaves work and slots, and changes nothing in the record; what a step hands back, part by part, and that its places are places of the
--- counts and of the stations.
-use Prim.Native.Nat.{ℕ, zero, suc, _≤_, _<_}
-use mathlib.Core.Path.{_≡_, refl, ap, _∙_}
+-- What a step hands back, part by part, and that its places are places of the counts and of the stations.
+use Prim.Native.Nat.{ℕ, _<_}
+use mathlib.Core.Path.{_≡_, ap, _∙_}
 use mathlib.Core.List.{List}
 use native.Mathlib.Omega.{arith}
 use lib.ListN.{getD}
-use Rattle.refusal.specs.declared.Refusal.{Refusal}
-use Rattle.refusal.specs.Refusals.{numberOf}
-use Rattle.refusal.proofs.Laws.{number-positive}
 use Rattle.record.specs.declared.Station.{Station}
 use Rattle.record.specs.declared.WriterWork.{WriterWork}
 use Rattle.record.proofs.Numbered.{place-below}
-use Rattle.answers.specs.Answers.{refused}
-use Rattle.effects.specs.declared.update.Update.the-variants.{Nothing}
 use Rattle.effects.specs.Effects.{reachAfter, countPlace, countAfter, stationAfter}
 use Rattle.effects.proofs.EffectLaws.{count-place-below}
-use Rattle.writer.specs.Work.{WorkOutcome, workUnless, stationUnderway, stationAt, stores}
-
-module _ (work : WriterWork) (slots : List ℕ) (done : WorkOutcome) where
-  by-number : (n : ℕ) → 1 ≤ n → workUnless n work slots done ≡ record { work = work; update = Nothing; slots = slots; answer = refused n }
-  unfolding workUnless
-  by-number zero h = absurd (omega arith)
-  by-number (suc n) h = refl
-
-  pub refused-work : (r : Refusal) → workUnless (numberOf r) work slots done ≡ record { work = work; update = Nothing; slots = slots; answer = refused (numberOf r) }
-  refused-work r = by-number (numberOf r) (number-positive r)
-
-  pub allowed-work : workUnless 0 work slots done ≡ done
-  unfolding workUnless
-  allowed-work = refl
+use Rattle.writer.specs.Work.{WorkOutcome, stationUnderway, stationAt, stores}
 
 -- what a step hands back that comes to this, part by part
 pub handed-back : {after due : WorkOutcome} (m reach : ℕ) (counts : List ℕ) (station : Station) {next-reach at count : ℕ} {last : Station} → after ≡ due → next-reach ≡ reachAfter reach (after .update) → at ≡ countPlace (after .update) → count ≡ countAfter m (after .update) (getD counts at 0) → last ≡ stationAfter (after .update) station → record { work = after .work; reach = next-reach; at = at; count = count; station = last; slots = after .slots; answer = after .answer } ≡ stores m reach counts station due

@@ -120,7 +120,7 @@ module _ (panel : Record) (slots : List ℕ) (point : ℕ) (work : WriterWork) w
       let after-2 = not-refused (not (validPoint point)) 2 _ (omega arith) (after-1 .1) in
       with-writer-in-range (length slots) panel (not-false (inRange (length slots) panel) (after-1 .0)) work (h (not-false (validPoint point) (after-2 .0)))
 
-  begun : (n : ℕ) → startRefusal (length slots) panel point ≡ n → (validPoint point ≡ true → writerInRange (panel .k) work ≡ true) → isWriterIdle work ≡ false → Begun (unlessRefused n panel slots (outcome (withWriter panel work) slots started))
+  begun : (n : ℕ) → startRefusal (length slots) panel point ≡ n → (validPoint point ≡ true → writerInRange (panel .k) work ≡ true) → isWriterIdle work ≡ false → Begun (unlessRefused n (outcome panel slots) (outcome (withWriter panel work) slots started))
   unfolding unlessRefused withWriter
   begun zero e h w = record { fits = λ u. started-fits e h; works = λ u. w }
   begun (suc n) e h w = record { fits = λ u. absurd (false≢true u); works = λ u. absurd (false≢true u) }
@@ -150,7 +150,7 @@ module _ (panel : Record) (slots : List ℕ) where
   pub step-keeps : Keeps panel slots (stepWriter panel slots)
   unfolding stepWriter writerRuns afterStep withWriter
   step-keeps =
-      unless (Keeps panel slots) (stepRefusal (length slots) panel) panel slots _
+      unless (Keeps panel slots) (stepRefusal (length slots) panel) (outcome panel slots) _
       (λ answer. record { length-stays = refl; m-stays = refl; k-stays = refl; readers-stay = refl })
       (λ e.
       let leaves = update-leaves panel _ in
@@ -171,7 +171,7 @@ module _ (panel : Record) (slots : List ℕ) where
   pub step-in-range : inRange (length slots) panel ≡ true → inRange (length (stepWriter panel slots .slots)) (stepWriter panel slots .panel) ≡ true
   unfolding stepWriter
   step-in-range fits =
-      unless (λ (o : Outcome). inRange (length (o .slots)) (o .panel) ≡ true) (stepRefusal (length slots) panel) panel slots _ (λ answer. fits)
+      unless (λ (o : Outcome). inRange (length (o .slots)) (o .panel) ≡ true) (stepRefusal (length slots) panel) (outcome panel slots) _ (λ answer. fits)
       (λ e. let w = at-work e in run-in-range panel slots (w .0) (w .1))
 
   reach-after : writerRuns panel slots (panel .writer .work) .panel .reach ≡ reachStored (panel .reach) (writerAccess panel (panel .writer .work))

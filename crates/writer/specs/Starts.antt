@@ -1,5 +1,5 @@
 -- Document 01, "Steps": starting one of the writer's operations; "starting an operation takes no step".
-use Prim.Native.Nat.{ℕ, zero, suc}
+use Prim.Native.Nat.{ℕ}
 use mathlib.Core.Bool.{Bool, not}
 use mathlib.Core.List.{List}
 use lib.ListN.{length}
@@ -15,7 +15,7 @@ use Rattle.record.specs.declared.WriterWork.the-variants.{Putting, Changing, Re
 use Rattle.record.specs.Parts.{withWriter}
 use Rattle.slot_words.specs.Points.{validPoint}
 use Rattle.record_ranges.specs.Ranges.{inRange}
-use Rattle.answers.specs.Answers.{Answer, started, refused, paperStart, Outcome, outcome, unlessRefused}
+use Rattle.answers.specs.Answers.{Answer, started, paperStart, Outcome, outcome, unlessRefused}
 use Rattle.record.specs.Idle.{isWriterIdle}
 use Rattle.writer.specs.declared.starts.StartedWriter.{StartedWriter}
 
@@ -31,7 +31,7 @@ startRefusal lent panel point = workStartRefusal (inRange lent panel) point (pan
 -- the writer is given its work, unless the call is refused
 unfoldable pub startWriter : Record → List ℕ → ℕ → WriterWork → Outcome
 startWriter panel slots point work =
-    unlessRefused (startRefusal (length slots) panel point) panel slots (outcome (withWriter panel work) slots started)
+    unlessRefused (startRefusal (length slots) panel point) (outcome panel slots) (outcome (withWriter panel work) slots started)
 
 -- a put that begins
 abbrev pub putBegun : ℕ → ℕ → WriterWork
@@ -63,15 +63,14 @@ pub record StartedWork : Type 0 where
   pub work : WriterWork
   pub answer : Answer
 
+-- the two together
+abbrev pub startedWork : WriterWork → Answer → StartedWork
+startedWork work answer = record { work = work; answer = answer }
+
 -- the same in the code's struct
 abbrev pub paperStarted : StartedWriter → StartedWork
-paperStarted next = record { work = next .writer .work; answer = paperStart (next .answer) }
-
--- "All leave slots, buffers and record untouched": the work stays if the start is refused with that number; where that is 0, it is the new one
-unfoldable pub newUnless : ℕ → WriterWork → WriterWork → StartedWork
-newUnless zero work new = record { work = new; answer = started }
-newUnless (suc n) work new = record { work = work; answer = refused (suc n) }
+paperStarted next = startedWork (next .writer .work) (paperStart (next .answer))
 
 -- the start of an operation on this point, by whether the record is in range and by the writer's work so far
 unfoldable pub startWork : Bool → WriterWork → ℕ → WriterWork → StartedWork
-startWork fits work point new = newUnless (workStartRefusal fits point work) work new
+startWork fits work point new = unlessRefused (workStartRefusal fits point work) (startedWork work) (startedWork new started)

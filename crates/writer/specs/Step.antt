@@ -63,4 +63,4 @@ writerRuns panel slots work =
 -- the writer's step
 unfoldable pub stepWriter : Record → List ℕ → Outcome
 stepWriter panel slots =
-    unlessRefused (stepRefusal (length slots) panel) panel slots (writerRuns panel slots (panel .writer .work))
+    unlessRefused (stepRefusal (length slots) panel) (outcome panel slots) (writerRuns panel slots (panel .writer .work))

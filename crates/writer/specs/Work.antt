@@ -1,5 +1,5 @@
 -- The writer's step by what it needs of the record, and what it makes of that: the writer's work, the reach, one count and one station's last command.
-use Prim.Native.Nat.{ℕ, zero, suc}
+use Prim.Native.Nat.{ℕ}
 use mathlib.Core.Bool.{Bool}
 use mathlib.Core.List.{List}
 use lib.ListN.{getD}
@@ -7,7 +7,7 @@ use Rattle.record.specs.declared.Station.{Station}
 use Rattle.record.specs.declared.WriterWork.{WriterWork}
 use Rattle.record.specs.declared.WriterWork.the-variants.{Idle, Putting, Changing, Removing}
 use Rattle.record.specs.Parts.{numberedPlace}
-use Rattle.answers.specs.Answers.{Answer, refused, stepAnswer, paperStep}
+use Rattle.answers.specs.Answers.{Answer, stepAnswer, paperStep, unlessRefused}
 use Rattle.effects.specs.declared.update.Update.{Update}
 use Rattle.effects.specs.declared.update.Update.the-variants.{Nothing}
 use Rattle.effects.specs.Memory.{slotStored, accessRead, slotsAfter}
@@ -28,10 +28,9 @@ pub record WorkOutcome : Type 0 where
 abbrev pub paperWork : WorkStep → List ℕ → WorkOutcome
 paperWork step slots = record { work = step .work; update = step .update; slots = slots; answer = paperStep (step .answer) }
 
--- "All leave slots, buffers and record untouched": what a step comes to if it is refused with that number, or, where that is 0, as given
-unfoldable pub workUnless : ℕ → WriterWork → List ℕ → WorkOutcome → WorkOutcome
-workUnless zero work slots done = done
-workUnless (suc n) work slots done = record { work = work; update = Nothing; slots = slots; answer = refused (suc n) }
+-- what is left by a step that is refused
+abbrev pub workLeft : WriterWork → List ℕ → Answer → WorkOutcome
+workLeft work slots answer = record { work = work; update = Nothing; slots = slots; answer = answer }
 
 -- a step with these slots after its access, and this effect
 unfoldable pub afterAccess : List ℕ → WriterEffect → WorkOutcome
@@ -47,7 +46,7 @@ workRuns m k reach counts work slots =
 -- the step of a writer with this work, by whether the record is in range
 unfoldable pub stepWork : Bool → ℕ → ℕ → ℕ → List ℕ → WriterWork → List ℕ → WorkOutcome
 stepWork fits m k reach counts work slots =
-    workUnless (workRefusal fits work) work slots (workRuns m k reach counts work slots)
+    unlessRefused (workRefusal fits work) (workLeft work slots) (workRuns m k reach counts work slots)
 
 -- the station whose command's change is underway; 0 where none is
 abbrev pub stationUnderway : WriterWork → ℕ

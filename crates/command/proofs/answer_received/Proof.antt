@@ -1,7 +1,7 @@
 -- `command::answer_received` meets its contract, by what was received.
 use mathlib.Core.Path.{sym, ap, _∙_}
-use Rattle.answers.specs.Answers.{unlessRefused}
-use Rattle.answers.proofs.AnswerLaws.{refused-outcome}
+use Rattle.answers.specs.Answers.{outcome, unlessRefused}
+use Rattle.answers.proofs.AnswerLaws.{refused-call}
 use Rattle.command.specs.Command.{inTurn}
 use Rattle.command.specs.CommandFrames.{paperReceived, answerReceived}
 use borrow.Author.Needs.{needs}
@@ -38,7 +38,7 @@ returns-2 c slots =
     let a = c .before .before .before .before .args in
     let given = c .before .before .received2 .given in
     c .refuse .ensures slots
-    ∙ sym (refused-outcome (a .panel) slots _ (given .0 .0))
+    ∙ sym (refused-call (outcome (a .panel) slots) _ (given .0 .0))
     ∙ sym (ap (λ r. answerReceived (a .panel) slots (paperReceived r)) (given .1))
 
 pub answer-received-spec : {M : Type 1} → statement M

@@ -4,7 +4,8 @@ use mathlib.Core.Path.{_∙_, sym, ap}
 use borrow.Author.Needs.{needs}
 use Rattle.refusal.specs.Refusals.{paperJudged}
 use Rattle.answers.specs.Answers.{started}
-use Rattle.reader_step.proofs.StepWork.{refused-effect, allowed-effect}
+use Rattle.answers.proofs.AnswerLaws.{refused-call, allowed-call}
+use Rattle.reader_step.specs.Reader.{effectOf}
 use Rattle.reader_starts.specs.Starts.{givenWork}
 use Rattle.reader_starts.proofs.given_work.Statement.{statement}
 use Rattle.reader_starts.proofs.given_work.Tie as tie
@@ -22,7 +23,7 @@ returns c =
     let w = a .found .work in
     sym
     (ap (λ (n : ℕ). givenWork n w (a .work)) (ap paperJudged (c .before .judged .given .1))
-    ∙ refused-effect w (record { work = a .work; answer = started }) (c .before .judged .given .0 .0))
+    ∙ refused-call (effectOf w) (effectOf (a .work) started) (c .before .judged .given .0 .0))
 
 returns-2 : tie.Need-returns-2
 unfolding givenWork
@@ -31,7 +32,7 @@ returns-2 c =
     let w = a .found .work in
     sym
     (ap (λ (n : ℕ). givenWork n w (a .work)) (ap paperJudged (c .enum-told .given .1))
-    ∙ allowed-effect w (record { work = a .work; answer = started }))
+    ∙ allowed-call (effectOf w) (effectOf (a .work) started))
 
 pub given-work-spec : {M : Type 1} → statement M
 given-work-spec = tie.close (tie.spec enum-known-judged enum-told returns returns-2)

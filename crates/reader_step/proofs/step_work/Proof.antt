@@ -5,8 +5,9 @@ use borrow.Author.Needs.{needs}
 use denote.Ref.{now}
 use Rattle.refusal.specs.Refusals.{paperJudged}
 use Rattle.search.specs.Access.{wordRead}
-use Rattle.reader_step.specs.Reader.{readerAccess, readerAdvance, effectUnless, stepWork}
-use Rattle.reader_step.proofs.StepWork.{refused-effect, allowed-effect}
+use Rattle.answers.specs.Answers.{unlessRefused}
+use Rattle.answers.proofs.AnswerLaws.{refused-call, allowed-call}
+use Rattle.reader_step.specs.Reader.{effectOf, readerAccess, readerAdvance, stepWork}
 use Rattle.reader_step.proofs.step_work.Statement.{statement}
 use Rattle.reader_step.proofs.step_work.Tie as tie
 
@@ -38,8 +39,8 @@ returns c =
     let w = a .found .work in
     let done = readerAdvance (a .m) (a .reach) w (wordRead (now (a .slots)) (readerAccess (a .m) w)) in
     let verdict = sym (ap paperJudged (c .before .refusal .given .1)) ∙ c .before .before .before .judge-step .ensures in
-    sym (refused-effect w done (c .before .refusal .given .0 .0))
-    ∙ ap (λ (n : ℕ). effectUnless n w done) verdict
+    sym (refused-call (effectOf w) done (c .before .refusal .given .0 .0))
+    ∙ ap (λ (n : ℕ). unlessRefused n (effectOf w) done) verdict
 
 returns-2 : tie.Need-returns-2
 unfolding stepWork
@@ -51,8 +52,8 @@ returns-2 c =
     c .stepped .ensures
     ∙ c .before .reader-advance .ensures
     ∙ ap (readerAdvance (a .m) (a .reach) w) (c .before .before .word-read .ensures ∙ ap (wordRead (now (a .slots))) (c .before .before .before .reader-access .ensures))
-    ∙ sym (allowed-effect w done)
-    ∙ ap (λ (n : ℕ). effectUnless n w done) verdict
+    ∙ sym (allowed-call (effectOf w) done)
+    ∙ ap (λ (n : ℕ). unlessRefused n (effectOf w) done) verdict
 
 pub step-work-spec : {M : Type 1} → statement M
 step-work-spec =

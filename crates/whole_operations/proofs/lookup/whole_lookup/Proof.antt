@@ -9,7 +9,7 @@ use Rattle.record.specs.declared.ReaderWork.the-variants.{LookingUp}
 use Rattle.record.specs.Parts.{withWork}
 use Rattle.record.proofs.Numbered.{mapped-length}
 use Rattle.answers.specs.Answers.{Ending, ended, outcome, unlessRefused, refused, started}
-use Rattle.answers.proofs.AnswerLaws.{refused-outcome}
+use Rattle.answers.proofs.AnswerLaws.{refused-call}
 use Rattle.reader_step.specs.Reader.{lookupEnding}
 use Rattle.reader_starts.specs.Starts.{startReader, startLookup}
 use Rattle.whole_operations.specs.Whole.{untilEnded, readerStep, wholeLookup}
@@ -48,7 +48,7 @@ returns c =
     let e = sym (c .before .before .before .judge-lookup .ensures) ∙ ap paperJudged (c .before .refusal .given .1) in
     sym (has-ended step (a .panel .k + 1) (outcome (a .panel) s (refused (numberOf refusal))) refl)
     ∙ ap (untilEnded step (a .panel .k + 1))
-    (sym (ap (λ (n : ℕ). unlessRefused n (a .panel) s begun) e ∙ refused-outcome (a .panel) s begun refusal))
+    (sym (ap (λ (n : ℕ). unlessRefused n (outcome (a .panel) s) begun) e ∙ refused-call (outcome (a .panel) s) begun refusal))
 
 returns-2 : tie.Need-returns-2
 returns-2 c =

@@ -3,8 +3,9 @@ use Prim.Native.Nat.{ℕ}
 use mathlib.Core.Path.{_∙_, sym, ap}
 use borrow.Author.Needs.{needs}
 use Rattle.refusal.specs.Refusals.{paperJudged}
-use Rattle.writer.specs.Starts.{newUnless, startWork}
-use Rattle.writer.proofs.StartsInPlace.{refused-start, allowed-start}
+use Rattle.answers.specs.Answers.{started, unlessRefused}
+use Rattle.answers.proofs.AnswerLaws.{refused-call, allowed-call}
+use Rattle.writer.specs.Starts.{startedWork, startWork}
 use Rattle.writer.proofs.starts.started.Statement.{statement}
 use Rattle.writer.proofs.starts.started.Tie as tie
 
@@ -22,14 +23,14 @@ unfolding startWork
 returns c =
     let a = c .before .before .before .before .args in
     let verdict = sym (ap paperJudged (c .before .refusal .given .1)) ∙ c .before .before .before .judge .ensures in
-    sym (refused-start (a .writer .work) (a .new) (c .before .refusal .given .0 .0)) ∙ ap (λ (n : ℕ). newUnless n (a .writer .work) (a .new)) verdict
+    sym (refused-call (startedWork (a .writer .work)) (startedWork (a .new) started) (c .before .refusal .given .0 .0)) ∙ ap (λ (n : ℕ). unlessRefused n (startedWork (a .writer .work)) (startedWork (a .new) started)) verdict
 
 returns-2 : tie.Need-returns-2
 unfolding startWork
 returns-2 c =
     let a = c .before .before .before .args in
     let verdict = sym (ap paperJudged (c .enum-told .given .1)) ∙ c .before .before .judge .ensures in
-    sym (allowed-start (a .writer .work) (a .new)) ∙ ap (λ (n : ℕ). newUnless n (a .writer .work) (a .new)) verdict
+    sym (allowed-call (startedWork (a .writer .work)) (startedWork (a .new) started)) ∙ ap (λ (n : ℕ). unlessRefused n (startedWork (a .writer .work)) (startedWork (a .new) started)) verdict
 
 pub started-spec : {M : Type 1} → statement M
 started-spec = tie.close (tie.spec judge-requires enum-known-refusal enum-told returns returns-2)

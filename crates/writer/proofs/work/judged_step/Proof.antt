@@ -4,8 +4,9 @@ use mathlib.Core.Path.{_∙_, sym, ap}
 use denote.Ref.{now}
 use borrow.Author.Needs.{needs}
 use Rattle.refusal.specs.Refusals.{paperJudged}
-use Rattle.writer.specs.Work.{workUnless, workRuns, stepWork}
-use Rattle.writer.proofs.WorkLaws.{refused-work, allowed-work}
+use Rattle.answers.specs.Answers.{unlessRefused}
+use Rattle.answers.proofs.AnswerLaws.{refused-call, allowed-call}
+use Rattle.writer.specs.Work.{workLeft, workRuns, stepWork}
 use Rattle.writer.proofs.work.judged_step.Statement.{statement}
 use Rattle.writer.proofs.work.judged_step.Tie as tie
 
@@ -28,7 +29,7 @@ returns c =
     let s = now (a .slots) in
     let done = workRuns (a .m) (a .k) (a .reach) (a .counts) (a .work) s in
     let verdict = sym (ap paperJudged (c .before .refusal .given .1)) ∙ c .before .before .before .judge-step .ensures in
-    sym (refused-work (a .work) s done (c .before .refusal .given .0 .0)) ∙ ap (λ (n : ℕ). workUnless n (a .work) s done) verdict
+    sym (refused-call (workLeft (a .work) s) done (c .before .refusal .given .0 .0)) ∙ ap (λ (n : ℕ). unlessRefused n (workLeft (a .work) s) done) verdict
 
 same-length : tie.Need-same-length
 same-length c = search needs
@@ -40,7 +41,7 @@ returns-2 c =
     let s = now (a .slots) in
     let done = workRuns (a .m) (a .k) (a .reach) (a .counts) (a .work) s in
     let verdict = sym (ap paperJudged (c .before .before .before .before .enum-told .given .1)) ∙ c .before .before .before .before .before .before .judge-step .ensures in
-    c .before .before .run-step .ensures ∙ sym (allowed-work (a .work) s done) ∙ ap (λ (n : ℕ). workUnless n (a .work) s done) verdict
+    c .before .before .run-step .ensures ∙ sym (allowed-call (workLeft (a .work) s) done) ∙ ap (λ (n : ℕ). unlessRefused n (workLeft (a .work) s) done) verdict
 
 pub judged-step-spec : {M : Type 1} → statement M
 judged-step-spec =

@@ -105,8 +105,8 @@ module _ {M : Type 1} {𝓤 : URA M} {H : Heap 𝓤} {A : Atoms 𝓤} {K : Type 
   pub calls-sharing : K → FmC 𝓤 H (W .laws) C → (panel : Record) (b o n : ℕ) → Holds panel → n < 2 ^ 64 → (says : ℕ → GName → bool .Denot → SProp 𝓤)
       → ((ν : ℕ) (γ : GName) → ent 𝓤 (mean 𝓤 H A (SharedAsked 𝓤 H A panel b o n ν γ)) (C f (vptr b o ∷ vint w64 n ∷ []) (SharedGiven 𝓤 H A says ν γ)))
       → ((ν : ℕ) (γ : GName) → Opds K W (SharedAsked 𝓤 H A panel b o n ν γ ∷ ‵ (flent (ν ∷ []) (partAt row fullShare panel b o)) ∷ Γ) E xs (vptr b o ∷ vint w64 n ∷ []))
-      → ((ν : ℕ) (γ : GName) (r : bool .Denot) → Seq K W (raw (says ν γ r) ∷ ‵ (recordAt panel b o) ∷ Γ) (lands C Λ E d (vbool r) rest q))
-      → Seq K W (‵ (recordAt panel b o) ∷ Γ) (runs C Λ E (seq (call f xs d) rest) q)
+      → ((ν : ℕ) (γ : GName) (r : bool .Denot) → Seq K W (raw (says ν γ r) ∷ ‵ (recordAt fullShare panel b o) ∷ Γ) (lands C Λ E d (vbool r) rest q))
+      → Seq K W (‵ (recordAt fullShare panel b o) ∷ Γ) (runs C Λ E (seq (call f xs d) rest) q)
   unfolding partOf recordAt
   calls-sharing t fm panel b o n is l says met os k =
       owned t row (Is row) (LL.makes RecordType.the-type RecordLaws.the-plain 𝓤 H A) panel (val panel ∷ []) is $ move t (1 ∷ 0 ∷ []) $ fjoin t $ fpack t (List Val) (λ vs. fsep (cellAt fullShare (row .mir) vs b o) (row .own panel vs)) (val panel ∷ []) $
@@ -119,7 +119,7 @@ module _ {M : Type 1} {𝓤 : URA M} {H : Heap 𝓤} {A : Atoms 𝓤} {K : Type 
       -- [the token; nothing; the result; what is said; the lender's part]
       move t (2 ∷ []) $ facts t bool (Is bool) (shows 𝓤 H A bool) r (u ∷ []) (λ is-r. lft-end t tt $ move t (0 ∷ 3 ∷ []) $ lent-back t tt $
       fpick t (λ vs. fsplit t $ spelt-out t row (Is row) (shows 𝓤 H A row) (LL.vals RecordType.the-type RecordLaws.the-laws) (LL.tells RecordType.the-type RecordLaws.the-laws) fullShare panel vs b o $ move t (1 ∷ 2 ∷ []) $ drop t $ drop t $ move t (1 ∷ 0 ∷ []) $
-      told bool vbool bool-tells (λ v. Seq K W (raw (says ν γ r) ∷ ‵ (recordAt panel b o) ∷ Γ) (lands C Λ E d v rest q)) r u is-r (λ _. k ν γ r)))))))
+      told bool vbool bool-tells (λ v. Seq K W (raw (says ν γ r) ∷ ‵ (recordAt fullShare panel b o) ∷ Γ) (lands C Λ E d v rest q)) r u is-r (λ _. k ν γ r)))))))
 
 -- ---- a function that is handed on a `&` to the record, and plain arguments
 module _ {M : Type 1} (𝓤 : URA M) (H : Heap 𝓤) (A : Atoms 𝓤) (κ : Lft) (share : Share) (x : RefT Record) where

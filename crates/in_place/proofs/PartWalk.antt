@@ -133,7 +133,7 @@ module _ (O : Outcome) (τs : List Ty) (g : Access) where
     -- the context around an access: the record, the parameters, fits, the locals that the access names, next, the length's local and those of the access
     abbrev around : Blocks first-locals → Blocks named-locals → Blocks next-locals → Blocks (g .handing) → Blocks (g .storing) → Record → Fml → List (Item 𝓤) → List (Item 𝓤)
     around ls fs xs hs ss now-there next Γ =
-        ‵ (recordAt now-there b o) ∷ ‵ (fat fullShare panelTy (ls .0) 0 (vptr b o)) ∷ ‵ (fat fullShare slotsTy (ls .1 .0) 0 s) ∷ ‵ (cells τs (ls .1 .1) vs) ∷ ‵ (fat fullShare tyBool (fs .0) 0 (vbool fit)) ∷ ‵ (rooms (g .named) (fs .1)) ∷ ‵ next ∷ ‵ (froom (tyInt w64) (xs .1 .1 .0) 0) ∷ ‵ (rooms (g .taking) (xs .1 .1 .1)) ∷ ‵ (rooms (g .handing) hs) ∷ ‵ (rooms (g .storing) ss) ∷ Γ
+        ‵ (recordAt fullShare now-there b o) ∷ ‵ (fat fullShare panelTy (ls .0) 0 (vptr b o)) ∷ ‵ (fat fullShare slotsTy (ls .1 .0) 0 s) ∷ ‵ (cells τs (ls .1 .1) vs) ∷ ‵ (fat fullShare tyBool (fs .0) 0 (vbool fit)) ∷ ‵ (rooms (g .named) (fs .1)) ∷ ‵ next ∷ ‵ (froom (tyInt w64) (xs .1 .1 .0) 0) ∷ ‵ (rooms (g .taking) (xs .1 .1 .1)) ∷ ‵ (rooms (g .handing) hs) ∷ ‵ (rooms (g .storing) ss) ∷ Γ
 
     -- what the access does: after it the record is `after next`, which `says` tells of
     pub record Accesses (after : O .D → Record) (says : O .D → SProp 𝓤) : Type 2 where

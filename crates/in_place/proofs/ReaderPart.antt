@@ -148,7 +148,7 @@ module _ (L : OutcomeOf reader) (τs : List Ty) where
       -- the context around the call: the record, the parameters, fits, the reader found and the locals for the call
       abbrev around-call : Blocks (first-locals O σs (reader-access g)) → Blocks (named-locals O σs (reader-access g)) → Blocks (g .locals) → List (Item 𝓤) → List (Item 𝓤)
       around-call ls fs hs Γ =
-          ‵ (recordAt panel b o) ∷ ‵ (fat fullShare panelTy (ls .0) 0 (vptr b o)) ∷ ‵ (fat fullShare slotsTy (ls .1 .0) 0 s) ∷ ‵ (fat fullShare (tyInt w32) (ls .1 .1 .0) 0 (vint w32 number)) ∷ ‵ (cells τs (ls .1 .1 .1) vs) ∷ ‵ (fat fullShare tyBool (fs .0) 0 (vbool fit)) ∷ ‵ (fat fullShare readerTy (fs .1 .1 .0) 0 (reader-val (reader-found panel number))) ∷ ‵ (rooms (g .locals) hs) ∷ Γ
+          ‵ (recordAt fullShare panel b o) ∷ ‵ (fat fullShare panelTy (ls .0) 0 (vptr b o)) ∷ ‵ (fat fullShare slotsTy (ls .1 .0) 0 s) ∷ ‵ (fat fullShare (tyInt w32) (ls .1 .1 .0) 0 (vint w32 number)) ∷ ‵ (cells τs (ls .1 .1 .1) vs) ∷ ‵ (fat fullShare tyBool (fs .0) 0 (vbool fit)) ∷ ‵ (fat fullShare readerTy (fs .1 .1 .0) 0 (reader-val (reader-found panel number))) ∷ ‵ (rooms (g .locals) hs) ∷ Γ
 
       -- what the call does: `says` tells of what it gives
       pub record Hands (says : L .D → SProp 𝓤) : Type 2 where

@@ -127,61 +127,37 @@ station-val = field-val StationType.the-field StationLaws.the-field-laws
 abbrev pub counts-val : List ℕ → Val
 counts-val counts = arrayVal (map (vint w32) (map (u32-field .into) counts))
 
--- ---- the record behind an open reference
-unfoldable pub recordAt : Record → ℕ → ℕ → Fml
-recordAt panel b o = fat fullShare (rawTy recordTy) b o (val panel)
-
--- a share of it
-unfoldable pub sharedAt : Share → Record → ℕ → ℕ → Fml
-sharedAt q panel b o = fat q (rawTy recordTy) b o (val panel)
+-- ---- a share of the record behind an open reference
+unfoldable pub recordAt : Share → Record → ℕ → ℕ → Fml
+recordAt q panel b o = fat q (rawTy recordTy) b o (val panel)
 
 -- ---- reading a field and storing one, the record being the entry in front
 module _ {M : Type 1} {𝓤 : URA M} {H : Heap 𝓤} {A : Atoms 𝓤} {K : Type 0} {W : Given 𝓤 H A} {Γ : List (Item 𝓤)} where
-  pub m-seen : K → (q : Share) (panel : Record) (b o : ℕ) → Reads K W (‵ (sharedAt q panel b o) ∷ Γ) (tyInt w32) b (o + 0) (vint w32 (panel .m))
-  unfolding sharedAt
-  m-seen t q panel b o = look-in t 0 (sub t 0 {τ = tyInt w32} {d = 0} m-found (behind t recordTy))
+  pub m-read : K → (q : Share) (panel : Record) (b o : ℕ) → Reads K W (‵ (recordAt q panel b o) ∷ Γ) (tyInt w32) b (o + 0) (vint w32 (panel .m))
+  unfolding recordAt
+  m-read t q panel b o = look-in t 0 (sub t 0 {τ = tyInt w32} {d = 0} m-found (behind t recordTy))
 
-  pub m-read : K → (panel : Record) (b o : ℕ) → Reads K W (‵ (recordAt panel b o) ∷ Γ) (tyInt w32) b (o + 0) (vint w32 (panel .m))
-  unfolding recordAt sharedAt
-  m-read t panel b o = m-seen t fullShare panel b o
+  pub k-read : K → (q : Share) (panel : Record) (b o : ℕ) → Reads K W (‵ (recordAt q panel b o) ∷ Γ) (tyInt w32) b (o + 4) (vint w32 (panel .k))
+  unfolding recordAt
+  k-read t q panel b o = look-in t 0 (sub t 1 {τ = tyInt w32} {d = 4} k-found (behind t recordTy))
 
-  pub k-seen : K → (q : Share) (panel : Record) (b o : ℕ) → Reads K W (‵ (sharedAt q panel b o) ∷ Γ) (tyInt w32) b (o + 4) (vint w32 (panel .k))
-  unfolding sharedAt
-  k-seen t q panel b o = look-in t 0 (sub t 1 {τ = tyInt w32} {d = 4} k-found (behind t recordTy))
+  pub reach-read : K → (q : Share) (panel : Record) (b o : ℕ) → Reads K W (‵ (recordAt q panel b o) ∷ Γ) (tyInt w32) b (o + 8) (vint w32 (panel .reach))
+  unfolding recordAt
+  reach-read t q panel b o = look-in t 0 (sub t 2 {τ = tyInt w32} {d = 8} reach-found (behind t recordTy))
 
-  pub k-read : K → (panel : Record) (b o : ℕ) → Reads K W (‵ (recordAt panel b o) ∷ Γ) (tyInt w32) b (o + 4) (vint w32 (panel .k))
-  unfolding recordAt sharedAt
-  k-read t panel b o = k-seen t fullShare panel b o
+  pub counts-read : K → (q : Share) (panel : Record) (b o : ℕ) → Reads K W (‵ (recordAt q panel b o) ∷ Γ) (tyArray (tyInt w32) 64) b (o + 12) (counts-val (panel .counts))
+  unfolding recordAt
+  counts-read t q panel b o = look-in t 0 (sub t 3 {τ = tyArray (tyInt w32) 64} {d = 12} counts-found (behind t recordTy))
 
-  pub reach-seen : K → (q : Share) (panel : Record) (b o : ℕ) → Reads K W (‵ (sharedAt q panel b o) ∷ Γ) (tyInt w32) b (o + 8) (vint w32 (panel .reach))
-  unfolding sharedAt
-  reach-seen t q panel b o = look-in t 0 (sub t 2 {τ = tyInt w32} {d = 8} reach-found (behind t recordTy))
+  pub writer-read : K → (q : Share) (panel : Record) (b o : ℕ) → Reads K W (‵ (recordAt q panel b o) ∷ Γ) writerTy b (o + 268) (writer-val (panel .writer))
+  unfolding recordAt
+  writer-read t q panel b o = look-in t 0 (sub t 4 {τ = writerTy} {d = 268} writer-found (behind t recordTy))
 
-  pub reach-read : K → (panel : Record) (b o : ℕ) → Reads K W (‵ (recordAt panel b o) ∷ Γ) (tyInt w32) b (o + 8) (vint w32 (panel .reach))
-  unfolding recordAt sharedAt
-  reach-read t panel b o = reach-seen t fullShare panel b o
-
-  pub counts-seen : K → (q : Share) (panel : Record) (b o : ℕ) → Reads K W (‵ (sharedAt q panel b o) ∷ Γ) (tyArray (tyInt w32) 64) b (o + 12) (counts-val (panel .counts))
-  unfolding sharedAt
-  counts-seen t q panel b o = look-in t 0 (sub t 3 {τ = tyArray (tyInt w32) 64} {d = 12} counts-found (behind t recordTy))
-
-  pub counts-read : K → (panel : Record) (b o : ℕ) → Reads K W (‵ (recordAt panel b o) ∷ Γ) (tyArray (tyInt w32) 64) b (o + 12) (counts-val (panel .counts))
-  unfolding recordAt sharedAt
-  counts-read t panel b o = counts-seen t fullShare panel b o
-
-  pub writer-seen : K → (q : Share) (panel : Record) (b o : ℕ) → Reads K W (‵ (sharedAt q panel b o) ∷ Γ) writerTy b (o + 268) (writer-val (panel .writer))
-  unfolding sharedAt
-  writer-seen t q panel b o = look-in t 0 (sub t 4 {τ = writerTy} {d = 268} writer-found (behind t recordTy))
-
-  pub writer-read : K → (panel : Record) (b o : ℕ) → Reads K W (‵ (recordAt panel b o) ∷ Γ) writerTy b (o + 268) (writer-val (panel .writer))
-  unfolding recordAt sharedAt
-  writer-read t panel b o = writer-seen t fullShare panel b o
-
-  pub reach-stored : K → (panel : Record) (b o x : ℕ) → T (hasTy (tyInt w32) (vint w32 x)) × WT (vint w32 x) → Writes K W (‵ (recordAt panel b o) ∷ Γ) (tyInt w32) b (o + 8) (vint w32 x) (‵ (recordAt (withReach panel x) b o) ∷ Γ)
+  pub reach-stored : K → (panel : Record) (b o x : ℕ) → T (hasTy (tyInt w32) (vint w32 x)) × WT (vint w32 x) → Writes K W (‵ (recordAt fullShare panel b o) ∷ Γ) (tyInt w32) b (o + 8) (vint w32 x) (‵ (recordAt fullShare (withReach panel x) b o) ∷ Γ)
   unfolding recordAt withReach
   reach-stored t panel b o x wt = store-in t 0 (sub t 2 {τ = tyInt w32} {d = 8} reach-found (behind t recordTy)) wt
 
-  pub writer-stored : K → (panel : Record) (b o : ℕ) (writer : Writer) → T (hasTy writerTy (writer-val writer)) × WT (writer-val writer) → Writes K W (‵ (recordAt panel b o) ∷ Γ) writerTy b (o + 268) (writer-val writer) (‵ (recordAt (withWriter panel (writer .work)) b o) ∷ Γ)
+  pub writer-stored : K → (panel : Record) (b o : ℕ) (writer : Writer) → T (hasTy writerTy (writer-val writer)) × WT (writer-val writer) → Writes K W (‵ (recordAt fullShare panel b o) ∷ Γ) writerTy b (o + 268) (writer-val writer) (‵ (recordAt fullShare (withWriter panel (writer .work)) b o) ∷ Γ)
   unfolding recordAt withWriter
   writer-stored t panel b o writer wt = store-in t 0 (sub t 4 {τ = writerTy} {d = 268} writer-found (behind t recordTy)) wt
 
@@ -195,22 +171,40 @@ module _ (F : Field) (L : LL.FLaws F) (n f d : ℕ) (τ : Ty) (found : fieldOf r
         (at-f ∙ ap arrayVal (map-map (L .val) (F .into) xs)) (sub t f {τ = tyArray τ n} {d = d} found (behind t recordTy)))
 
     module _ {Γ : List (Item 𝓤)} where
-      element-read : K → (b o k : ℕ) (none : F .Value) → k < n → Reads K W (‵ (recordAt panel b o) ∷ Γ) τ b (k * size τ + (o + d)) (field-val F L (getD xs k none))
+      pub element-read : K → (q : Share) (b o k : ℕ) (none : F .Value) → k < n → Reads K W (‵ (recordAt q panel b o) ∷ Γ) τ b (k * size τ + (o + d)) (field-val F L (getD xs k none))
       unfolding recordAt
-      element-read t b o k none l = look-in t 0 (element-cell t fullShare b o k none l)
-
-      -- the same of a record that is shared
-      pub element-seen : K → (q : Share) (b o k : ℕ) (none : F .Value) → k < n → Reads K W (‵ (sharedAt q panel b o) ∷ Γ) τ b (k * size τ + (o + d)) (field-val F L (getD xs k none))
-      unfolding sharedAt
-      element-seen t q b o k none l = look-in t 0 (element-cell t q b o k none l)
+      element-read t q b o k none l = look-in t 0 (element-cell t q b o k none l)
 
       element-stored : K → (b o k : ℕ) (none : F .Value) → k < n → (y : F .Value) (after : Record) → vstruct (setV (fields-of (val panel)) f (arrayVal (map (L .val) (map (F .into) (set xs k y))))) ≡ val after
-          → T (hasTy τ (field-val F L y)) × WT (field-val F L y) → Writes K W (‵ (recordAt panel b o) ∷ Γ) τ b (k * size τ + (o + d)) (field-val F L y) (‵ (recordAt after b o) ∷ Γ)
+          → T (hasTy τ (field-val F L y)) × WT (field-val F L y) → Writes K W (‵ (recordAt fullShare panel b o) ∷ Γ) τ b (k * size τ + (o + d)) (field-val F L y) (‵ (recordAt fullShare after b o) ∷ Γ)
       unfolding recordAt
       element-stored t b o k none l y after is wt =
           subst (λ (v : Val). Writes K W (‵ (fat fullShare (rawTy recordTy) b o (val panel)) ∷ Γ) τ b (k * size τ + (o + d)) (field-val F L y) (‵ (fat fullShare (rawTy recordTy) b o v) ∷ Γ))
           (ap (λ (us : List Val). vstruct (setV (fields-of (val panel)) f (arrayVal us))) (set-map (field-val F L) xs k y ∙ sym (map-map (L .val) (F .into) (set xs k y))) ∙ is)
           (store-in t 0 (element-cell t fullShare b o k none l) wt)
+
+-- ---- the relations of what is no number to its machine value
+abbrev pub ReaderHolds : Reader → Type 0
+ReaderHolds y = Is (ReaderType.the-field .row) (ReaderType.the-field .into y) (reader-val y ∷ [])
+
+abbrev pub WriterHolds : Writer → Type 0
+WriterHolds y = Is (WriterType.the-field .row) (WriterType.the-field .into y) (writer-val y ∷ [])
+
+abbrev pub StationHolds : Station → Type 0
+StationHolds y = Is (StationType.the-field .row) (StationType.the-field .into y) (station-val y ∷ [])
+
+abbrev CountsHold : List ℕ → Type 0
+CountsHold xs = Is (Array (u32-field .row) 64) (map (u32-field .into) xs) (counts-val xs ∷ [])
+
+abbrev ReadersHold : List Reader → Type 0
+ReadersHold xs = Is (Array (ReaderType.the-field .row) 16) (map (ReaderType.the-field .into) xs) (arrayVal (map (ReaderLaws.the-field-laws .val) (map (ReaderType.the-field .into) xs)) ∷ [])
+
+abbrev StationsHold : List Station → Type 0
+StationsHold xs = Is (Array (StationType.the-field .row) 32) (map (StationType.the-field .into) xs) (arrayVal (map (StationLaws.the-field-laws .val) (map (StationType.the-field .into) xs)) ∷ [])
+
+-- a record whose fields do stands in its relation
+all-hold : (panel : Record) → panel .m < 2 ^ 32 → panel .k < 2 ^ 32 → panel .reach < 2 ^ 32 → CountsHold (panel .counts) → WriterHolds (panel .writer) → ReadersHold (panel .readers) → StationsHold (panel .stations) → Holds panel
+all-hold panel m k reach counts writer readers stations = LL.owes RecordType.the-type RecordLaws.the-laws panel ((refl, m), ((refl, k), ((refl, reach), (counts, (writer, (readers, (stations, tt)))))))
 
 -- ---- what the fields' relations say
 module _ (panel : Record) (is : Holds panel) where
@@ -223,115 +217,67 @@ module _ (panel : Record) (is : Holds panel) where
   pub reach-fits : panel .reach < 2 ^ 32
   reach-fits = LL.owed RecordType.the-type RecordLaws.the-laws panel (val panel ∷ []) is .1 .1 .0 .1
 
-  pub counts-hold : Is (Array (u32-field .row) 64) (map (u32-field .into) (panel .counts)) (counts-val (panel .counts) ∷ [])
+  pub counts-hold : CountsHold (panel .counts)
   counts-hold = LL.owed RecordType.the-type RecordLaws.the-laws panel (val panel ∷ []) is .1 .1 .1 .0
 
-  pub writer-holds : Is (WriterType.the-field .row) (WriterType.the-field .into (panel .writer)) (writer-val (panel .writer) ∷ [])
+  pub writer-holds : WriterHolds (panel .writer)
   writer-holds = LL.owed RecordType.the-type RecordLaws.the-laws panel (val panel ∷ []) is .1 .1 .1 .1 .0
 
-  pub readers-hold : Is (Array (ReaderType.the-field .row) 16) (map (ReaderType.the-field .into) (panel .readers)) (arrayVal (map (ReaderLaws.the-field-laws .val) (map (ReaderType.the-field .into) (panel .readers))) ∷ [])
+  pub readers-hold : ReadersHold (panel .readers)
   readers-hold = LL.owed RecordType.the-type RecordLaws.the-laws panel (val panel ∷ []) is .1 .1 .1 .1 .1 .0
 
-  pub stations-hold : Is (Array (StationType.the-field .row) 32) (map (StationType.the-field .into) (panel .stations)) (arrayVal (map (StationLaws.the-field-laws .val) (map (StationType.the-field .into) (panel .stations))) ∷ [])
+  pub stations-hold : StationsHold (panel .stations)
   stations-hold = LL.owed RecordType.the-type RecordLaws.the-laws panel (val panel ∷ []) is .1 .1 .1 .1 .1 .1 .0
 
-  pub reader-holds : (k : ℕ) → k < 16 → Is (ReaderType.the-field .row) (ReaderType.the-field .into (getD (panel .readers) k idleReader)) (reader-val (getD (panel .readers) k idleReader) ∷ [])
+  pub reader-holds : (k : ℕ) → k < 16 → ReaderHolds (getD (panel .readers) k idleReader)
   reader-holds k l = is-element ReaderType.the-field ReaderLaws.the-field-laws 16 (panel .readers) _ readers-hold k idleReader l
 
-  pub station-holds : (k : ℕ) → k < 32 → Is (StationType.the-field .row) (StationType.the-field .into (getD (panel .stations) k unheardStation)) (station-val (getD (panel .stations) k unheardStation) ∷ [])
+  pub station-holds : (k : ℕ) → k < 32 → StationHolds (getD (panel .stations) k unheardStation)
   station-holds k l = is-element StationType.the-field StationLaws.the-field-laws 32 (panel .stations) _ stations-hold k unheardStation l
 
   -- a record with a field replaced stands in its relation too
   pub holds-with-reach : (x : ℕ) → x < 2 ^ 32 → Holds (withReach panel x)
   unfolding withReach
-  holds-with-reach x l = LL.owes RecordType.the-type RecordLaws.the-laws (withReach panel x) ((refl, m-fits), ((refl, k-fits), ((refl, l), (counts-hold, (writer-holds, (readers-hold, (stations-hold, tt)))))))
+  holds-with-reach x l = all-hold (withReach panel x) m-fits k-fits l counts-hold writer-holds readers-hold stations-hold
 
   pub holds-with-count : (k x : ℕ) → x < 2 ^ 32 → Holds (withCounts panel (set (panel .counts) k x))
   unfolding withCounts
-  holds-with-count k x l = LL.owes RecordType.the-type RecordLaws.the-laws (withCounts panel (set (panel .counts) k x)) (
-    (refl, m-fits),
-    (
-      (refl, k-fits),
-      (
-        (refl, reach-fits),
-        (
-          is-replaced u32-field LL.u32-laws 64 (panel .counts) _ counts-hold k x (refl, l),
-          (writer-holds, (readers-hold, (stations-hold, tt))),
-        ),
-      ),
-    ),
-  )
+  holds-with-count k x l =
+      all-hold (withCounts panel (set (panel .counts) k x)) m-fits k-fits reach-fits (is-replaced u32-field LL.u32-laws 64 (panel .counts) _ counts-hold k x (refl, l)) writer-holds readers-hold stations-hold
 
-  pub holds-with-writer : (y : Writer) → Is (WriterType.the-field .row) (WriterType.the-field .into y) (writer-val y ∷ []) → Holds (withWriter panel (y .work))
+  pub holds-with-writer : (y : Writer) → WriterHolds y → Holds (withWriter panel (y .work))
   unfolding withWriter
-  holds-with-writer y is-y = LL.owes RecordType.the-type RecordLaws.the-laws (withWriter panel (y .work)) ((refl, m-fits), ((refl, k-fits), ((refl, reach-fits), (counts-hold, (is-y, (readers-hold, (stations-hold, tt)))))))
+  holds-with-writer y is-y = all-hold (withWriter panel (y .work)) m-fits k-fits reach-fits counts-hold is-y readers-hold stations-hold
 
-  pub holds-with-station : (k : ℕ) (y : Station) → Is (StationType.the-field .row) (StationType.the-field .into y) (station-val y ∷ []) → Holds (withStations panel (set (panel .stations) k y))
-  unfolding withStations
-  holds-with-station k y is-y = LL.owes RecordType.the-type RecordLaws.the-laws (withStations panel (set (panel .stations) k y)) (
-    (refl, m-fits),
-    (
-      (refl, k-fits),
-      (
-        (refl, reach-fits),
-        (
-          counts-hold,
-          (
-            writer-holds,
-            (
-              readers-hold,
-              (
-                is-replaced StationType.the-field StationLaws.the-field-laws 32 (panel .stations) _ stations-hold k y is-y,
-                tt,
-              ),
-            ),
-          ),
-        ),
-      ),
-    ),
-  )
-
-  pub holds-with-reader : (k : ℕ) (y : Reader) → Is (ReaderType.the-field .row) (ReaderType.the-field .into y) (reader-val y ∷ []) → Holds (withReaders panel (set (panel .readers) k y))
+  pub holds-with-reader : (k : ℕ) (y : Reader) → ReaderHolds y → Holds (withReaders panel (set (panel .readers) k y))
   unfolding withReaders
-  holds-with-reader k y is-y = LL.owes RecordType.the-type RecordLaws.the-laws (withReaders panel (set (panel .readers) k y)) (
-    (refl, m-fits),
-    (
-      (refl, k-fits),
-      (
-        (refl, reach-fits),
-        (
-          counts-hold,
-          (
-            writer-holds,
-            (
-              is-replaced ReaderType.the-field ReaderLaws.the-field-laws 16 (panel .readers) _ readers-hold k y is-y,
-              (stations-hold, tt),
-            ),
-          ),
-        ),
-      ),
-    ),
-  )
+  holds-with-reader k y is-y =
+      all-hold (withReaders panel (set (panel .readers) k y)) m-fits k-fits reach-fits counts-hold writer-holds (is-replaced ReaderType.the-field ReaderLaws.the-field-laws 16 (panel .readers) _ readers-hold k y is-y) stations-hold
+
+  pub holds-with-station : (k : ℕ) (y : Station) → StationHolds y → Holds (withStations panel (set (panel .stations) k y))
+  unfolding withStations
+  holds-with-station k y is-y =
+      all-hold (withStations panel (set (panel .stations) k y)) m-fits k-fits reach-fits counts-hold writer-holds readers-hold (is-replaced StationType.the-field StationLaws.the-field-laws 32 (panel .stations) _ stations-hold k y is-y)
 
   module _ {M : Type 1} {𝓤 : URA M} {H : Heap 𝓤} {A : Atoms 𝓤} {K : Type 0} {W : Given 𝓤 H A} {Γ : List (Item 𝓤)} where
-    pub reader-read : K → (b o k : ℕ) → k < 16 → Reads K W (‵ (recordAt panel b o) ∷ Γ) readerTy b (k * 20 + (o + 308)) (reader-val (getD (panel .readers) k idleReader))
-    reader-read t b o k l = element-read ReaderType.the-field ReaderLaws.the-field-laws 16 5 308 readerTy readers-found panel (panel .readers) refl readers-hold t b o k idleReader l
+    pub reader-read : K → (b o k : ℕ) → k < 16 → Reads K W (‵ (recordAt fullShare panel b o) ∷ Γ) readerTy b (k * 20 + (o + 308)) (reader-val (getD (panel .readers) k idleReader))
+    reader-read t b o k l = element-read ReaderType.the-field ReaderLaws.the-field-laws 16 5 308 readerTy readers-found panel (panel .readers) refl readers-hold t fullShare b o k idleReader l
 
-    pub station-read : K → (b o k : ℕ) → k < 32 → Reads K W (‵ (recordAt panel b o) ∷ Γ) stationTy b (k * 20 + (o + 628)) (station-val (getD (panel .stations) k unheardStation))
-    station-read t b o k l = element-read StationType.the-field StationLaws.the-field-laws 32 6 628 stationTy stations-found panel (panel .stations) refl stations-hold t b o k unheardStation l
+    pub station-read : K → (b o k : ℕ) → k < 32 → Reads K W (‵ (recordAt fullShare panel b o) ∷ Γ) stationTy b (k * 20 + (o + 628)) (station-val (getD (panel .stations) k unheardStation))
+    station-read t b o k l = element-read StationType.the-field StationLaws.the-field-laws 32 6 628 stationTy stations-found panel (panel .stations) refl stations-hold t fullShare b o k unheardStation l
 
     pub station-stored : K → (b o k : ℕ) → k < 32 → (y : Station) → T (hasTy stationTy (station-val y)) × WT (station-val y)
-        → Writes K W (‵ (recordAt panel b o) ∷ Γ) stationTy b (k * 20 + (o + 628)) (station-val y) (‵ (recordAt (withStations panel (set (panel .stations) k y)) b o) ∷ Γ)
+        → Writes K W (‵ (recordAt fullShare panel b o) ∷ Γ) stationTy b (k * 20 + (o + 628)) (station-val y) (‵ (recordAt fullShare (withStations panel (set (panel .stations) k y)) b o) ∷ Γ)
     unfolding withStations
     station-stored t b o k l y wt = element-stored StationType.the-field StationLaws.the-field-laws 32 6 628 stationTy stations-found panel (panel .stations) refl stations-hold t b o k unheardStation l y (withStations panel (set (panel .stations) k y)) refl wt
 
     pub count-stored : K → (b o k : ℕ) → k < 64 → (x : ℕ) → T (hasTy (tyInt w32) (vint w32 x)) × WT (vint w32 x)
-        → Writes K W (‵ (recordAt panel b o) ∷ Γ) (tyInt w32) b (k * 4 + (o + 12)) (vint w32 x) (‵ (recordAt (withCounts panel (set (panel .counts) k x)) b o) ∷ Γ)
+        → Writes K W (‵ (recordAt fullShare panel b o) ∷ Γ) (tyInt w32) b (k * 4 + (o + 12)) (vint w32 x) (‵ (recordAt fullShare (withCounts panel (set (panel .counts) k x)) b o) ∷ Γ)
     unfolding withCounts
     count-stored t b o k l x wt = element-stored u32-field LL.u32-laws 64 3 12 (tyInt w32) counts-found panel (panel .counts) refl counts-hold t b o k 0 l x (withCounts panel (set (panel .counts) k x)) refl wt
 
     pub reader-stored : K → (b o k : ℕ) → k < 16 → (y : Reader) → T (hasTy readerTy (reader-val y)) × WT (reader-val y)
-        → Writes K W (‵ (recordAt panel b o) ∷ Γ) readerTy b (k * 20 + (o + 308)) (reader-val y) (‵ (recordAt (withReaders panel (set (panel .readers) k y)) b o) ∷ Γ)
+        → Writes K W (‵ (recordAt fullShare panel b o) ∷ Γ) readerTy b (k * 20 + (o + 308)) (reader-val y) (‵ (recordAt fullShare (withReaders panel (set (panel .readers) k y)) b o) ∷ Γ)
     unfolding withReaders
     reader-stored t b o k l y wt = element-stored ReaderType.the-field ReaderLaws.the-field-laws 16 5 308 readerTy readers-found panel (panel .readers) refl readers-hold t b o k idleReader l y (withReaders panel (set (panel .readers) k y)) refl wt
 
@@ -339,36 +285,36 @@ module _ {M : Type 1} (𝓤 : URA M) (H : Heap 𝓤) (A : Atoms 𝓤) (W : Given
   pub counts-typed : (panel : Record) → Holds panel → T (hasTy (tyArray (tyInt w32) 64) (counts-val (panel .counts))) × WT (counts-val (panel .counts))
   counts-typed panel is = LL.array-laws u32-field LL.u32-laws 64 .lawful 𝓤 H A W .typed (map (u32-field .into) (panel .counts)) (counts-val (panel .counts) ∷ []) (counts-hold panel is) .0
 
-  pub writer-typed : (y : Writer) → Is (WriterType.the-field .row) (WriterType.the-field .into y) (writer-val y ∷ []) → T (hasTy writerTy (writer-val y)) × WT (writer-val y)
+  pub writer-typed : (y : Writer) → WriterHolds y → T (hasTy writerTy (writer-val y)) × WT (writer-val y)
   writer-typed y is = WriterLaws.the-field-laws .lawful 𝓤 H A W .typed (WriterType.the-field .into y) (writer-val y ∷ []) is .0
 
-  pub station-typed : (y : Station) → Is (StationType.the-field .row) (StationType.the-field .into y) (station-val y ∷ []) → T (hasTy stationTy (station-val y)) × WT (station-val y)
+  pub station-typed : (y : Station) → StationHolds y → T (hasTy stationTy (station-val y)) × WT (station-val y)
   station-typed y is = StationLaws.the-field-laws .lawful 𝓤 H A W .typed (StationType.the-field .into y) (station-val y ∷ []) is .0
 
-  pub reader-typed : (y : Reader) → Is (ReaderType.the-field .row) (ReaderType.the-field .into y) (reader-val y ∷ []) → T (hasTy readerTy (reader-val y)) × WT (reader-val y)
+  pub reader-typed : (y : Reader) → ReaderHolds y → T (hasTy readerTy (reader-val y)) × WT (reader-val y)
   reader-typed y is = ReaderLaws.the-field-laws .lawful 𝓤 H A W .typed (ReaderType.the-field .into y) (reader-val y ∷ []) is .0
 
 -- ---- a reference to the record is opened and closed
 module _ {M : Type 1} {𝓤 : URA M} {H : Heap 𝓤} {A : Atoms 𝓤} {K : Type 0} {W : Given 𝓤 H A} {Γ : List (Item 𝓤)} {G : Goal 𝓤 H} {κ : Lft} {q : Share} {γ : GName} where
-  pub opens-panel : K → Soaks G → (panel : Record) (b o : ℕ) → (Holds panel → Seq K W (‵ (recordAt panel b o) ∷ ‵ (fobor κ q (Body (mem row) b o γ)) ∷ ‵ (fobs γ (row .coded .code panel)) ∷ ‵ (fauth γ (row .coded .code panel)) ∷ Γ) G)
+  pub opens-panel : K → Soaks G → (panel : Record) (b o : ℕ) → (Holds panel → Seq K W (‵ (recordAt fullShare panel b o) ∷ ‵ (fobor κ q (Body (mem row) b o γ)) ∷ ‵ (fobs γ (row .coded .code panel)) ∷ ‵ (fauth γ (row .coded .code panel)) ∷ Γ) G)
       → Seq K W (‵ (fobs γ (row .coded .code panel)) ∷ ‵ (fbor κ (Body (mem row) b o γ)) ∷ ‵ (flft κ q) ∷ Γ) G
   unfolding recordAt
   opens-panel t z panel b o k = opens t z row {κ = κ} {q = q} {h = panel} {γ = γ} b o (λ ws. spelt-out t row (Is row) (shows 𝓤 H A row) (LL.vals RecordType.the-type RecordLaws.the-laws) (LL.tells RecordType.the-type RecordLaws.the-laws) fullShare panel ws b o $
       move t (1 ∷ []) $ facts t row (Is row) (shows 𝓤 H A row) panel (val panel ∷ []) (λ is. k is))
 
   pub closes-panel : K → Soaks G → (panel : Record) (b o : ℕ) → Holds panel → {u v : Gv} → Step K W (‵ (fobs γ (row .coded .code panel)) ∷ ‵ (fbor κ (Body (mem row) b o γ)) ∷ ‵ (flft κ q) ∷ Γ) G
-      (‵ (recordAt panel b o) ∷ ‵ (fobor κ q (Body (mem row) b o γ)) ∷ ‵ (fobs γ u) ∷ ‵ (fauth γ v) ∷ Γ) G
+      (‵ (recordAt fullShare panel b o) ∷ ‵ (fobor κ q (Body (mem row) b o γ)) ∷ ‵ (fobs γ u) ∷ ‵ (fauth γ v) ∷ Γ) G
   unfolding recordAt
   closes-panel t z panel b o is = step (λ s. owned t row (Is row) (LL.makes RecordType.the-type RecordLaws.the-plain 𝓤 H A) panel (val panel ∷ []) is $ move t (1 ∷ 0 ∷ []) $ closes t z row panel (val panel ∷ []) b o $ s)
 
 -- ---- a shared reference to the record is looked into and shut
 module _ {M : Type 1} {𝓤 : URA M} {H : Heap 𝓤} {A : Atoms 𝓤} {K : Type 0} {W : Given 𝓤 H A} {Γ : List (Item 𝓤)} {G : Goal 𝓤 H} {κ : Lft} {q : Share} where
-  pub looks-panel : K → Soaks G → (panel : Record) (b o : ℕ) → ((q′ : Share) → Holds panel → Seq K W (‵ (sharedAt q′ panel b o) ∷ ‵ (fobor κ q (partAt row q′ panel b o)) ∷ ‵ (fshr-bor κ (λ s. partAt row s panel b o)) ∷ Γ) G)
+  pub looks-panel : K → Soaks G → (panel : Record) (b o : ℕ) → ((q′ : Share) → Holds panel → Seq K W (‵ (recordAt q′ panel b o) ∷ ‵ (fobor κ q (partAt row q′ panel b o)) ∷ ‵ (fshr-bor κ (λ s. partAt row s panel b o)) ∷ Γ) G)
       → Seq K W (‵ (fshr-bor κ (λ s. partAt row s panel b o)) ∷ ‵ (flft κ q) ∷ Γ) G
-  unfolding sharedAt
+  unfolding recordAt
   looks-panel t z panel b o k = looks t z row (Is row) (shows 𝓤 H A row) (LL.vals RecordType.the-type RecordLaws.the-laws) (LL.tells RecordType.the-type RecordLaws.the-laws) (LL.copy RecordType.the-type RecordLaws.the-copy 𝓤 H A W) {κ = κ} {q = q} panel b o (λ q′ vs.
       spelt-out t row (Is row) (shows 𝓤 H A row) (LL.vals RecordType.the-type RecordLaws.the-laws) (LL.tells RecordType.the-type RecordLaws.the-laws) q′ panel vs b o $ move t (1 ∷ []) $ facts t row (Is row) (shows 𝓤 H A row) panel (val panel ∷ []) (λ is. k q′ is))
 
-  pub shuts-panel : K → Soaks G → (q′ : Share) (panel : Record) (b o : ℕ) → Holds panel → Step K W (‵ (flft κ q) ∷ Γ) G (‵ (sharedAt q′ panel b o) ∷ ‵ (fobor κ q (partAt row q′ panel b o)) ∷ Γ) G
-  unfolding sharedAt
+  pub shuts-panel : K → Soaks G → (q′ : Share) (panel : Record) (b o : ℕ) → Holds panel → Step K W (‵ (flft κ q) ∷ Γ) G (‵ (recordAt q′ panel b o) ∷ ‵ (fobor κ q (partAt row q′ panel b o)) ∷ Γ) G
+  unfolding recordAt
   shuts-panel t z q′ panel b o is = step (λ s. owned t row (Is row) (LL.makes RecordType.the-type RecordLaws.the-plain 𝓤 H A) panel (val panel ∷ []) is $ move t (1 ∷ 0 ∷ []) $ shuts t z row q′ panel (val panel ∷ []) b o $ s)

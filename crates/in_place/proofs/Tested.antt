@@ -50,7 +50,7 @@ use Rattle.in_place.proofs.Elements.{field-val, fields-of, number-of, i
 use Rattle.in_place.proofs.Locals.{locals, past, copies, Blocks, env, cells, rooms, past-is, allocate, fill, free, found as found-local, reads, at-entry, from-next, from-first}
 use Rattle.in_place.proofs.Looked.{ended, Entry, Exit, ends as ends-with}
 use Rattle.in_place.proofs.Params.{Param, slots, tys, args, Related, well-typed}
-use Rattle.in_place.proofs.RecordFields.{row, recordTy, val, Holds, sharedAt, element-seen, looks-panel, shuts-panel}
+use Rattle.in_place.proofs.RecordFields.{row, recordTy, val, Holds, recordAt, element-read, looks-panel, shuts-panel}
 
 -- ---- the loop's invariant: what is tested of the first i elements, and what is left to test
 module _ {X : Type 0} (test : X → Bool) (none : X) (xs : List X) where
@@ -201,7 +201,7 @@ module _ (F : Field) (L : LL.FLaws F) (n f d : ℕ) (τ : Ty) (at : fieldOf reco
 
     -- the context where a turn begins: [the record; fit; i; room for the test's outcome, the offset, two pointers and the element; the reference; the further parameters; room for _0; what shuts the reference; and that each local dies]
     abbrev At : Turns → List (Item 𝓤)
-    At t = ‵ (sharedAt q′ h b o) ∷ ‵ (fat fullShare tyBool l₂ 0 (vbool (t .fit))) ∷ ‵ (fat fullShare word l₃ 0 (vint w64 (t .i))) ∷ ‵ (froom tyBool l₄ 0) ∷ ‵ (froom word l₅ 0) ∷ ‵ (froom tyPtr l₆ 0) ∷ ‵ (froom tyPtr l₇ 0) ∷ ‵ (froom τ l₈ 0)
+    At t = ‵ (recordAt q′ h b o) ∷ ‵ (fat fullShare tyBool l₂ 0 (vbool (t .fit))) ∷ ‵ (fat fullShare word l₃ 0 (vint w64 (t .i))) ∷ ‵ (froom tyBool l₄ 0) ∷ ‵ (froom word l₅ 0) ∷ ‵ (froom tyPtr l₆ 0) ∷ ‵ (froom tyPtr l₇ 0) ∷ ‵ (froom τ l₈ 0)
         ∷ ‵ (fat fullShare refTy l₁ 0 (vptr b o)) ∷ ‵ (cells τs bs vs) ∷ ‵ (froom tyBool l₀ 0) ∷ ‵ (fobor κ q (partAt row q′ h b o))
         ∷ ‵ (fdies tyBool l₀) ∷ ‵ (fdies refTy l₁) ∷ ‵ (fdies tyBool l₂) ∷ ‵ (fdies word l₃) ∷ ‵ (fdies tyBool l₄) ∷ ‵ (fdies word l₅) ∷ ‵ (fdies tyPtr l₆) ∷ ‵ (fdies tyPtr l₇) ∷ ‵ (fdies τ l₈) ∷ []
 
@@ -226,7 +226,7 @@ module _ (F : Field) (L : LL.FLaws F) (n f d : ℕ) (τ : Ty) (at : fieldOf reco
         assigns ! (bin ! (load ! (found-local ! (is-at 1) (stop !)) (look ! 2 refl)) (lit ! size-written) (record { fits = inside (t .i) less })) (found-local ! (is-at 3) (stop !)) (init ! 4 refl (tt, record { fits = inside (t .i) less })) $
         assigns ! (addr ! (from ! (hop ! (look ! 8 refl) (fld ! {τ = tyArray τ n} {d = d} at (stop !))))) (found-local ! (is-at 4) (stop !)) (init ! 5 refl (tt, tt)) $
         assigns ! (bin ! (load ! (found-local ! (is-at 4) (stop !)) (look ! 5 refl)) (load ! (found-local ! (is-at 3) (stop !)) (look ! 4 refl)) tt) (found-local ! (is-at 5) (stop !)) (init ! 6 refl (tt, tt)) $
-        assigns ! (of-opd ! (load ! (found-local ! (is-at 5) (hop ! (look ! 6 refl) (stop !))) (element-seen F L n f d τ at h (field-of h) (value-of h) (holds-of h is) ! q′ b o (t .i) none less))) (found-local ! (is-at 6) (stop !)) (init ! 7 refl (typed y is-y)) $
+        assigns ! (of-opd ! (load ! (found-local ! (is-at 5) (hop ! (look ! 6 refl) (stop !))) (element-read F L n f d τ at h (field-of h) (value-of h) (holds-of h is) ! q′ b o (t .i) none less))) (found-local ! (is-at 6) (stop !)) (init ! 7 refl (typed y is-y)) $
         use0 W (raw (emp 𝓤)) (id⊢ 𝓤 _) $
         calls-from ! (fmOf 𝓤 H (W .laws) 𝓣) (raw (emp 𝓤)) (vbool (t .fit) ∷ field-val F L y ∷ vs) _ (met (t .fit) y is-y)
         (and-then ! (load ! (found-local ! (is-at 0) (stop !)) (look ! 2 refl)) (and-then ! (load ! (found-local ! (is-at 6) (stop !)) (look ! 8 refl)) (at-entry _ 10 (reads _ ! 2 τs bs vs ok

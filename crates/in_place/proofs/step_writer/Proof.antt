@@ -151,7 +151,7 @@ module _ {M : Type 1} (𝓤 : URA M) (H : Heap 𝓤) (A : Atoms 𝓤) (W : Given
       (λ ν γ. met-fits (((ν ∷ [], tt), (fullShare, tt), tt, (lent γ, (n, tt)), (vptr b o ∷ [], (vint w64 n ∷ [], tt))), tt)) (λ ν γ. and-then ! (of-local ! 21 refl) (and-then ! (of-local ! 23 refl) (no-more !))) (λ ν γ fit.
       hears ! (lastsOf (ν ∷ [], tt) (fits.signature .params) (fits.ended .kept) (lent γ, (n, tt))) (λ _. fit ≡ inRange n h) (λ _ fit-is. drop ! $ land ! (from ! (stop !)) (init ! 10 refl (tt, tt)) $
       -- the writer, and the place of the station whose command's change is underway
-      assigns ! (of-opd ! (load ! (from ! (hop ! (look ! 6 refl) (writer-place !))) (writer-read ! h b o))) (from ! (stop !)) (init ! 12 refl (writer-typed 𝓤 H A W (h .writer) (writer-holds h is-h))) $
+      assigns ! (of-opd ! (load ! (from ! (hop ! (look ! 6 refl) (writer-place !))) (writer-read ! fullShare h b o))) (from ! (stop !)) (init ! 12 refl (writer-typed 𝓤 H A W (h .writer) (writer-holds h is-h))) $
       calls-plain ! fm (Writer.the-row ∷ []) (LL.makes Writer.the-type Writer′.the-plain 𝓤 H A, tt) (h .writer, tt) (writer-val (h .writer) ∷ [], tt) (writer-holds h is-h, tt) usize (vint w64) (uint-tells w64) (λ r. place.spec 𝓤 H A mem run tt (h .writer, tt) .ensures tt r)
       (met-place ((tt, tt, tt, (h .writer, tt), (writer-val (h .writer) ∷ [], tt)), tt)) (and-then ! (of-local ! 13 refl) (no-more !)) (λ at is-at.
       hears ! (lastsOf tt (place.signature .params) (place.ended .kept) (h .writer, tt)) (λ _. at ≡ stationAt (h .writer .work)) (λ _ at-is. drop ! $ land ! (from ! (stop !)) (init ! 14 refl (tt, record { fits = is-at .1 })) $
@@ -162,10 +162,10 @@ module _ {M : Type 1} (𝓤 : URA M) (H : Heap 𝓤) (A : Atoms 𝓤) (W : Given
       assigns ! (of-opd ! (load ! (from ! (hop ! (look ! 26 refl) (stop !))) (station-read h is-h ! b o at (inside at at-is)))) (from ! (stop !)) (init ! 28 refl (station-typed 𝓤 H A W (found h before at) (station-holds h is-h at (inside at at-is)))) $
       assigns ! (of-opd ! (of-local ! 28 refl)) (from ! (stop !)) (init ! 16 refl (station-typed 𝓤 H A W (found h before at) (station-holds h is-h at (inside at at-is)))) $
       -- m, k, the reach and the counts
-      assigns ! (of-opd ! (load ! (from ! (hop ! (look ! 6 refl) (m-place !))) (m-read ! h b o))) (from ! (stop !)) (init ! 30 refl (tt, record { fits = m-fits h is-h })) $
-      assigns ! (of-opd ! (load ! (from ! (hop ! (look ! 6 refl) (k-place !))) (k-read ! h b o))) (from ! (stop !)) (init ! 32 refl (tt, record { fits = k-fits h is-h })) $
-      assigns ! (of-opd ! (load ! (from ! (hop ! (look ! 6 refl) (reach-place !))) (reach-read ! h b o))) (from ! (stop !)) (init ! 34 refl (tt, record { fits = reach-fits h is-h })) $
-      assigns ! (of-opd ! (load ! (from ! (hop ! (look ! 6 refl) (counts-place !))) (counts-read ! h b o))) (from ! (stop !)) (init ! 36 refl (counts-typed 𝓤 H A W h is-h)) $
+      assigns ! (of-opd ! (load ! (from ! (hop ! (look ! 6 refl) (m-place !))) (m-read ! fullShare h b o))) (from ! (stop !)) (init ! 30 refl (tt, record { fits = m-fits h is-h })) $
+      assigns ! (of-opd ! (load ! (from ! (hop ! (look ! 6 refl) (k-place !))) (k-read ! fullShare h b o))) (from ! (stop !)) (init ! 32 refl (tt, record { fits = k-fits h is-h })) $
+      assigns ! (of-opd ! (load ! (from ! (hop ! (look ! 6 refl) (reach-place !))) (reach-read ! fullShare h b o))) (from ! (stop !)) (init ! 34 refl (tt, record { fits = reach-fits h is-h })) $
+      assigns ! (of-opd ! (load ! (from ! (hop ! (look ! 6 refl) (counts-place !))) (counts-read ! fullShare h b o))) (from ! (stop !)) (init ! 36 refl (counts-typed 𝓤 H A W h is-h)) $
       -- the slots, lent again
       assigns ! (addr ! (from ! (fld ! refl (hop ! (look-in ! 8 (sub ! 0 refl (whole !))) (stop !))))) (from ! (stop !)) (init ! 38 refl (tt, tt)) $
       assigns ! (agg ! (and-then ! (of-local ! 38 refl) (and-then ! (load ! (from ! (fld ! refl (stop !))) (look-in ! 8 (sub ! 1 refl (whole !)))) (no-more !)))) (from ! (stop !)) (init ! 40 refl (tt, ok .0 .1)) $

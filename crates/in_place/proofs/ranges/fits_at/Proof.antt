@@ -51,7 +51,7 @@ use Rattle.in_place.proofs.Frame.{spread, gather, free-rooms}
 use Rattle.in_place.proofs.Locals.{allocate}
 use Rattle.in_place.proofs.Looked.{Entry, Exit, ends, looked}
 use Rattle.in_place.proofs.Params.{Param, wide, slots, tys, args, Related, well-typed}
-use Rattle.in_place.proofs.RecordFields.{row, Holds, writerTy, counts-val, writer-val, m-place, k-place, reach-place, counts-place, writer-place, m-seen, k-seen, reach-seen, counts-seen, writer-seen, m-fits, k-fits, reach-fits, counts-hold, writer-holds, writer-typed, counts-typed, looks-panel, shuts-panel}
+use Rattle.in_place.proofs.RecordFields.{row, Holds, writerTy, counts-val, writer-val, m-place, k-place, reach-place, counts-place, writer-place, m-read, k-read, reach-read, counts-read, writer-read, m-fits, k-fits, reach-fits, counts-hold, writer-holds, writer-typed, counts-typed, looks-panel, shuts-panel}
 use Rattle.in_place.proofs.Steps.{span, of-local, hears, had}
 use Rattle.in_place.proofs.ranges.are_readers_in_range as readers
 use Rattle.in_place.proofs.ranges.are_readers_in_range.Met as readers-thm
@@ -87,11 +87,11 @@ module _ {M : Type 1} (𝓤 : URA M) (H : Heap 𝓤) (A : Atoms 𝓤) (W : Given
       enter ! (𝓣 .C) (𝓣 .Λ) code.function (vptr b o ∷ args κs ps a) _ $ allocate ! τs [] _ (λ bs. alloc0 ! $ spread ! τs bs $ params1 ! $ pass1 ! (init ! 2 refl (tt, tt)) $ pass1 ! (init ! 4 refl (ok .0)) $ pass0 ! $
       move ! (24 ∷ 22 ∷ []) $ looks-panel ! tt h b o (λ q′ is.
       -- [a share of the record; what shuts it; the shared borrow; local i at 2i + 3; the reference's mark at 25]
-      assigns ! (of-opd ! (load ! (from ! (hop ! (look ! 5 refl) (m-place !))) (m-seen ! q′ h b o))) (from ! (stop !)) (init ! 9 refl (tt, record { fits = m-fits h is })) $
-      assigns ! (of-opd ! (load ! (from ! (hop ! (look ! 5 refl) (k-place !))) (k-seen ! q′ h b o))) (from ! (stop !)) (init ! 11 refl (tt, record { fits = k-fits h is })) $
-      assigns ! (of-opd ! (load ! (from ! (hop ! (look ! 5 refl) (reach-place !))) (reach-seen ! q′ h b o))) (from ! (stop !)) (init ! 13 refl (tt, record { fits = reach-fits h is })) $
-      assigns ! (of-opd ! (load ! (from ! (hop ! (look ! 5 refl) (writer-place !))) (writer-seen ! q′ h b o))) (from ! (stop !)) (init ! 15 refl (writer-typed 𝓤 H A W (h .writer) (writer-holds h is))) $
-      assigns ! (of-opd ! (load ! (from ! (hop ! (look ! 5 refl) (counts-place !))) (counts-seen ! q′ h b o))) (from ! (stop !)) (init ! 23 refl (counts-typed 𝓤 H A W h is)) $
+      assigns ! (of-opd ! (load ! (from ! (hop ! (look ! 5 refl) (m-place !))) (m-read ! q′ h b o))) (from ! (stop !)) (init ! 9 refl (tt, record { fits = m-fits h is })) $
+      assigns ! (of-opd ! (load ! (from ! (hop ! (look ! 5 refl) (k-place !))) (k-read ! q′ h b o))) (from ! (stop !)) (init ! 11 refl (tt, record { fits = k-fits h is })) $
+      assigns ! (of-opd ! (load ! (from ! (hop ! (look ! 5 refl) (reach-place !))) (reach-read ! q′ h b o))) (from ! (stop !)) (init ! 13 refl (tt, record { fits = reach-fits h is })) $
+      assigns ! (of-opd ! (load ! (from ! (hop ! (look ! 5 refl) (writer-place !))) (writer-read ! q′ h b o))) (from ! (stop !)) (init ! 15 refl (writer-typed 𝓤 H A W (h .writer) (writer-holds h is))) $
+      assigns ! (of-opd ! (load ! (from ! (hop ! (look ! 5 refl) (counts-place !))) (counts-read ! q′ h b o))) (from ! (stop !)) (init ! 23 refl (counts-typed 𝓤 H A W h is)) $
       shuts-panel ! tt q′ h b o is $ move ! (0 ∷ 24 ∷ 1 ∷ []) $
       -- [the token, the mark and the shared borrow; local i at 2i + 3]
       calls-plain ! fm (Array u32 64 ∷ u32 ∷ u32 ∷ []) (array-makes 𝓤 H A W u32 (uint-makes 𝓤 H A W w32) 64, (uint-makes 𝓤 H A W w32, (uint-makes 𝓤 H A W w32, tt))) (h .counts, (h .m, (h .k, tt))) (counts-val (h .counts) ∷ [], (vint w32 (h .m) ∷ [], (vint w32 (h .k) ∷ [], tt)))

@@ -57,7 +57,7 @@ module _ (k reach : ℕ) (change : Change) (valid : validPoint (change .point) �
 
   -- the change goes on at a stage in range with as many steps left
   at-stage : (left : ℕ) (stage : ChangeStage) → changeStageInRange k stage ≡ true → changeLeft k stage + 1 ≤ left → OneEffect k reach place left (changeAt change stage)
-  unfolding changeAt goesOn writerInRange changeInRange updateInRange reachAfter writerLeft
+  unfolding changeAt goesOn writerInRange changeInRange updateInRange writerLeft
   at-stage left stage h less =
       record {
         work-fits = both-true (validPoint (change .point)) (both (alterationInRange (change .alteration)) (changeStageInRange k stage)) valid (both-true (alterationInRange (change .alteration)) (changeStageInRange k stage) alters h);
@@ -90,12 +90,12 @@ change-effect k reach change word r h =
 -- no step of a change stores the reach
 module _ (m reach : ℕ) (change : Change) (word : ℕ) where
   ended-reach : (alteration : Alteration) (answer : CommandAnswer) → reachAfter reach (alterationEnds alteration (change .point) answer) ≡ reach
-  unfolding alterationEnds reachAfter
+  unfolding alterationEnds
   ended-reach (Given masks) answer = refl
   ended-reach (Commanded command) answer = refl
 
   searched-reach : (after : Searched) → reachAfter reach (changeSearched change after .update) ≡ reach
-  unfolding changeSearched changeAnswered changeAt goesOn ends commandEnds reachAfter
+  unfolding changeSearched changeAnswered changeAt goesOn ends commandEnds
   searched-reach (Going search) = refl
   searched-reach (Answered (SearchAnswer·Found place)) = refl
   searched-reach (Answered Unknown) = ended-reach (change .alteration) CommandAnswer·Unknown

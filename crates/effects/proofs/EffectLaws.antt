@@ -76,7 +76,7 @@ pub record Updated (panel : Record) (update : Update) : Type 0 where
   pub reach-after : updated panel update .reach ≡ reachAfter (panel .reach) update
 
 pub update-leaves : (panel : Record) (update : Update) → Updated panel update
-unfolding updated reachAfter counted uncounted withReach withCount withCounts withStation withStations
+unfolding updated counted uncounted withReach withCount withCounts withStation withStations
 update-leaves panel Nothing = record { m-stays = refl; k-stays = refl; readers-stay = refl; reach-after = refl }
 update-leaves panel (Reach reach) = record { m-stays = refl; k-stays = refl; readers-stay = refl; reach-after = refl }
 update-leaves panel (Counted index) = record { m-stays = refl; k-stays = refl; readers-stay = refl; reach-after = refl }
@@ -116,11 +116,11 @@ module _ (panel : Record) (place : ℕ) where
 
   -- without an update each is stored again as it was
   pub same-in-parts : inParts Nothing ≡ panel
-  unfolding reachAfter countPlace countAfter stationAfter withReach withCounts withStations
+  unfolding countPlace countAfter withReach withCounts withStations
   same-in-parts = λ j. withStations (withCounts panel (same-counts 0 j)) (same-stations j)
 
   pub updated-in-parts : (update : Update) → panel .k ≤ 64 → updateInRange (panel .k) place update ≡ true → inParts update ≡ updated panel update
-  unfolding updated updateInRange counted uncounted reachAfter countPlace countAfter stationAfter withReach withCount withCounts withStation withStations countOf
+  unfolding updated updateInRange counted uncounted countPlace countAfter withReach withCount withCounts withStation withStations countOf
   updated-in-parts Nothing high h = same-in-parts
   updated-in-parts (Reach reach) high h = λ j. withStations (withCounts (withReach panel reach) (same-counts 0 j)) (same-stations j)
   updated-in-parts (Counted index) high h = λ j. withStations (withCounts panel (sym (recounted index (oneMore (panel .m)) high h) j)) (same-stations j)

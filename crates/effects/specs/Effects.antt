@@ -38,7 +38,7 @@ updated panel (Uncounted index) = uncounted panel index
 updated panel (Answered command) = withStation panel (command .station) (command .last)
 
 -- the reach after it
-unfoldable pub reachAfter : ℕ → Update → ℕ
+abbrev pub reachAfter : ℕ → Update → ℕ
 reachAfter reach Nothing = reach
 reachAfter reach (Reach new) = new
 reachAfter reach (Counted index) = reach
@@ -62,7 +62,7 @@ countAfter m (Uncounted index) count = oneLess count
 countAfter m (Answered command) count = count
 
 -- what the last command of the station is after it whose command's change is underway
-unfoldable pub stationAfter : Update → Station → Station
+abbrev pub stationAfter : Update → Station → Station
 stationAfter Nothing station = station
 stationAfter (Reach reach) station = station
 stationAfter (Counted index) station = station

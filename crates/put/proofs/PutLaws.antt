@@ -39,7 +39,7 @@ search-left k reach (Probing probe) = omega arith
 module _ (k reach place : ℕ) (put : Put) (low : 1 ≤ k) (valid : validPoint (put .point) ≡ true) where
   -- the put goes on at a stage in range with as many steps left
   at-stage : (left : ℕ) (stage : PutStage) → putStageInRange k stage ≡ true → putLeft k reach stage + 1 ≤ left → OneEffect k reach place left (putAt put stage)
-  unfolding putAt goesOn writerInRange putInRange updateInRange reachAfter writerLeft
+  unfolding putAt goesOn writerInRange putInRange updateInRange writerLeft
   at-stage left stage h less =
       record { work-fits = both-true (validPoint (put .point)) (putStageInRange k stage) valid h; update-fits = refl; ended = refl; less = less }
 
@@ -50,7 +50,7 @@ module _ (k reach place : ℕ) (put : Put) (low : 1 ≤ k) (valid : validPoint (
   searched left (Answered Unknown) s = at-stage _ (Scanning 1) (is-within 1 1 k (omega arith) low) (omega (arith, s .less))
 
   scanned : (index word : ℕ) → within 1 index k ≡ true → OneEffect k reach place (k - index + 1 + (1 + raising reach k)) (putScanned k put index word)
-  unfolding putScanned ends putStageInRange putLeft writerInRange updateInRange reachAfter writerLeft
+  unfolding putScanned ends putStageInRange putLeft writerInRange updateInRange writerLeft
   scanned index word h = go (eqb word 0) (ltb index k) refl
     where
       high : index ≤ k
@@ -63,7 +63,7 @@ module _ (k reach place : ℕ) (put : Put) (low : 1 ≤ k) (valid : validPoint (
       go false false e = record { work-fits = refl; update-fits = refl; ended = refl; less = omega arith }
 
   takes : (slot index : ℕ) → within 1 index k ≡ true → put .stage ≡ Chosen index → OneEffect k reach place (1 + raising reach index) (putTakes reach slot put index)
-  unfolding exceeds putTakes ends putInRange putStageInRange putLeft writerInRange updateInRange reachAfter writerLeft raising
+  unfolding exceeds putTakes ends putInRange putStageInRange putLeft writerInRange updateInRange writerLeft raising
   takes slot index h e = go (ltb reach index) refl
     where
       high : index ≤ k
@@ -83,7 +83,7 @@ module _ (k reach place : ℕ) (put : Put) (low : 1 ≤ k) (valid : validPoint (
       go false f = record { work-fits = refl; update-fits = h; ended = refl; less = omega arith }
 
   at-any-stage : (slot word : ℕ) (stage : PutStage) → reach ≤ k → put .stage ≡ stage → putStageInRange k stage ≡ true → OneEffect k reach place (putLeft k reach stage) (putStageAdvance k reach slot put stage word)
-  unfolding putStageAdvance putStageInRange putLeft putSearchLeft searchAdvance ends writerInRange updateInRange reachAfter writerLeft
+  unfolding putStageAdvance putStageInRange putLeft putSearchLeft searchAdvance ends writerInRange updateInRange writerLeft
   at-any-stage slot word (Searching Unread) r e h =
       let one = searched (reach + 1) _ (first-step k reach r) in
       record { work-fits = one .work-fits; update-fits = one .update-fits; ended = one .ended; less = omega (arith, one .less, raising-high reach k r) }
@@ -101,13 +101,13 @@ put-effect k reach place slot put word low r h =
 -- the step whose access stores the reach, and no other, updates the reach
 module _ (m k reach slot : ℕ) (put : Put) (word : ℕ) where
   searched-reach : (after : Searched) → reachAfter reach (putSearched put after .update) ≡ reach
-  unfolding putSearched putAnswered putAt goesOn reachAfter
+  unfolding putSearched putAnswered putAt goesOn
   searched-reach (Going search) = refl
   searched-reach (Answered (SearchAnswer·Found place)) = refl
   searched-reach (Answered Unknown) = refl
 
   scanned-reach : (index : ℕ) → reachAfter reach (putScanned k put index word .update) ≡ reach
-  unfolding putScanned putAt goesOn ends reachAfter
+  unfolding putScanned putAt goesOn ends
   scanned-reach index = go (eqb word 0) (ltb index k)
     where
       go : (empty below : Bool) → reachAfter reach (cond empty (putAt put (Chosen index)) (cond below (putAt put (Scanning (index + 1))) (ends Nothing (endedWith 6))) .update) ≡ reach
@@ -116,7 +116,7 @@ module _ (m k reach slot : ℕ) (put : Put) (word : ℕ) where
       go false false = refl
 
   takes-reach : (index : ℕ) → reachAfter reach (putTakes reach slot put index .update) ≡ reachStored reach (putStageAccess m reach put (Chosen index))
-  unfolding exceeds putTakes putStageAccess storeWord ends reachAfter reachStored
+  unfolding exceeds putTakes putStageAccess storeWord ends reachStored
   takes-reach index = go (ltb reach index)
     where
       go : (above : Bool) → reachAfter reach (cond {A = WriterEffect} above (record { work = Putting put; update = Reach index; progress = continues }) (ends (Counted index) (placed slot index)) .update) ≡ reachStored reach (cond above (StoreReach index) (storeWord m (put .point) index (wordOf (put .point) (put .value))))
@@ -124,7 +124,7 @@ module _ (m k reach slot : ℕ) (put : Put) (word : ℕ) where
       go false = refl
 
   stage-reach : (stage : PutStage) → reachAfter reach (putStageAdvance k reach slot put stage word .update) ≡ reachStored reach (putStageAccess m reach put stage)
-  unfolding putStageAdvance putStageAccess storeWord ends reachAfter reachStored
+  unfolding putStageAdvance putStageAccess storeWord ends reachStored
   stage-reach (Searching search) = searched-reach (searchAdvance reach (put .point) search word)
   stage-reach (Scanning index) = scanned-reach index
   stage-reach (PutStage·Found place) = refl

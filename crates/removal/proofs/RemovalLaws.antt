@@ -67,13 +67,13 @@ removal-effect k reach place counts removal word r h =
 -- the step whose access stores the reach, and no other, updates the reach
 module _ (m k reach : ℕ) (counts : List ℕ) (removal : Removal) (word : ℕ) where
   searched-reach : (after : Searched) → reachAfter reach (removalSearched removal after .update) ≡ reach
-  unfolding removalSearched removalAnswered removalAt ends reachAfter
+  unfolding removalSearched removalAnswered removalAt ends
   searched-reach (Going search) = refl
   searched-reach (Answered (SearchAnswer·Found place)) = refl
   searched-reach (Answered Unknown) = refl
 
   emptied-reach : (index : ℕ) → reachAfter reach (removalEmpties reach counts removal index .update) ≡ reach
-  unfolding removalEmpties removalAt ends reachAfter
+  unfolding removalEmpties removalAt ends
   emptied-reach index = go (isLast reach counts index)
     where
       go : (last : Bool) → reachAfter reach (cond last (removalAt removal Lowering (Uncounted index)) (ends (Uncounted index) (removed reach)) .update) ≡ reach
@@ -81,7 +81,7 @@ module _ (m k reach : ℕ) (counts : List ℕ) (removal : Removal) (word : ℕ) 
       go false = refl
 
   stage-reach : (stage : RemovalStage) → reachAfter reach (removalStageAdvance k reach counts removal stage word .update) ≡ reachStored reach (removalStageAccess m k counts removal stage)
-  unfolding removalStageAdvance removalStageAccess removalLowers storeWord ends reachAfter reachStored
+  unfolding removalStageAdvance removalStageAccess removalLowers storeWord ends reachStored
   stage-reach (Searching search) = searched-reach (searchAdvance reach (removal .point) search word)
   stage-reach (RemovalStage·Found place) = emptied-reach (place .index)
   stage-reach Lowering = refl

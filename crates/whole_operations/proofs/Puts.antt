@@ -37,19 +37,19 @@ pub record Adds (effect : WriterEffect) : Type 0 where
   pub last : isUnderway (stepAnswer (effect .progress)) ≡ true → indexCounted (effect .update) ≡ 0
 
 going : (work : WriterWork) → puts work ≡ true → Adds (goesOn work)
-unfolding goesOn updated reachAfter counted withReach withCount withCounts withNumbered indexCounted
+unfolding goesOn updated counted withReach withCount withCounts withNumbered indexCounted
 going work e = record { same-kind = e; adds = λ panel. refl; last = λ h. refl }
 
 ending : (answer : Ending) → Adds (ends Nothing answer)
-unfolding ends puts updated reachAfter counted withReach withCount withCounts withNumbered indexCounted
+unfolding ends puts updated counted withReach withCount withCounts withNumbered indexCounted
 ending answer = record { same-kind = refl; adds = λ panel. refl; last = λ h. refl }
 
 raising : (put : Put) (index : ℕ) → Adds (record { work = Putting put; update = Reach index; progress = continues })
-unfolding puts updated reachAfter counted withReach withCount withCounts withNumbered indexCounted
+unfolding puts updated counted withReach withCount withCounts withNumbered indexCounted
 raising put index = record { same-kind = refl; adds = λ panel. refl; last = λ h. refl }
 
 counting : (index : ℕ) (answer : Ending) → Adds (ends (Counted index) answer)
-unfolding ends puts updated reachAfter counted withReach withCount withCounts indexCounted
+unfolding ends puts updated counted withReach withCount withCounts indexCounted
 counting index answer = record { same-kind = refl; adds = λ panel. refl; last = λ h. absurd (false≢true h) }
 
 module _ (put : Put) where

@@ -44,7 +44,7 @@ writer-effect panel (Changing change) slot word low r h e = change-effect (panel
 writer-effect panel (Removing removal) slot word low r h e = removal-effect (panel .k) (panel .reach) _ (panel .counts) removal word r h
 
 writer-reach : (panel : Record) (work : WriterWork) (slot word : ℕ) → reachAfter (panel .reach) (writerAdvance panel work slot word .update) ≡ reachStored (panel .reach) (writerAccess panel work)
-unfolding workAdvance workAccess reachAfter reachStored goesOn
+unfolding workAdvance workAccess reachStored goesOn
 writer-reach panel Idle slot word = refl
 writer-reach panel (Putting put) slot word = put-reach (panel .m) (panel .k) (panel .reach) slot put word
 writer-reach panel (Changing change) slot word = change-reach (panel .m) (panel .reach) change word

@@ -20,6 +20,12 @@ pub both-true : (a b : Bool) → a ≡ true → b ≡ true → both a b ≡ true
 unfolding both
 both-true a b p q = rw (p, q)
 
+-- joined to one that holds, a condition is as before
+pub both-with : (a b : Bool) → b ≡ true → both a b ≡ a
+unfolding both
+both-with true b e = e
+both-with false b e = refl
+
 pub within-low : (low x high : ℕ) → within low x high ≡ true → low ≤ x
 unfolding within
 within-low low x high e = leb-true low x (both-left (leb low x) (leb x high) e)

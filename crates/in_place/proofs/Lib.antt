@@ -1,5 +1,6 @@
 pub mod Behind
 pub mod Calls
+pub mod CountsLent
 pub mod Elements
 pub mod Frame
 pub mod InPlace

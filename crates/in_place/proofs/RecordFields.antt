@@ -13,16 +13,18 @@ use mir.Raw.{raw as rawTy}
 use mir.Val.{Val, Vals, vint, vstruct, ofList, hasTy, WT}
 use mir.Fields.{getV, setV}
 use base.Stored.{Gv}
+use base.Logic.{SProp, wand, all, allE, apply∗}
 use base.Fml.{Fml, Lft, Share, GName, fat, fobs, fauth, fbor, fobor, flft, fshr-bor}
 use prog.Memory.{fieldOf, size}
 use prog.Wp.{Heap, Env}
 use ghost.Atoms.{Atoms}
-use types.Kit.{Given, Item, ‵, Goal, Soaks, Seq, Step, step, _$_, move}
+use types.Kit.{Given, Item, ‵, raw, _⊛_, Goal, Soaks, Seq, Step, step, _$_, move, split, use1, use2}
 use types.SemTy.{Body}
 use types.Part.{Part, sub, look-in, store-in}
 use types.Run.{Reads, Writes, Walks, fld, stop}
 use denote.Array.{Array, arrayVal}
-use denote.Laws.{Is, shows}
+use denote.Builtin.{u32}
+use denote.Laws.{Is, Tells, shows}
 use denote.Memory.{mem, partAt}
 use denote.RattleType.{RattleType}
 use denote.Steps.{opens, closes, looks, shuts, owned, facts}
@@ -45,7 +47,7 @@ use Rattle.record.proofs.Writer.Laws as WriterLaws
 use Rattle.record.proofs.Station as StationType
 use Rattle.record.proofs.Station.Laws as StationLaws
 use Rattle.in_place.proofs.Behind.{behind, element-of}
-use Rattle.in_place.proofs.Elements.{map-map, set-map, field-val, number-of, is-element, is-replaced, fields-of}
+use Rattle.in_place.proofs.Elements.{map-map, map-same, set-map, field-val, number-of, is-element, is-replaced, fields-of}
 
 abbrev pub row : RattleType
 row = RecordType.the-row
@@ -127,6 +129,9 @@ station-val = field-val StationType.the-field StationLaws.the-field-laws
 abbrev pub counts-val : List ℕ → Val
 counts-val counts = arrayVal (map (vint w32) (map (u32-field .into) counts))
 
+pub counts-tells : Tells (Array u32 64) (Is (Array u32 64)) (λ counts. counts-val counts ∷ [])
+counts-tells counts vs is = LL.array-laws u32-field LL.u32-laws 64 .tells counts vs is ∙ ap (λ (xs : List ℕ). arrayVal (map (vint w32) xs) ∷ []) (sym (map-same counts))
+
 -- ---- a share of the record behind an open reference
 unfoldable pub recordAt : Share → Record → ℕ → ℕ → Fml
 recordAt q panel b o = fat q (rawTy recordTy) b o (val panel)
@@ -160,6 +165,32 @@ module _ {M : Type 1} {𝓤 : URA M} {H : Heap 𝓤} {A : Atoms 𝓤} {K : Type 
   pub writer-stored : K → (panel : Record) (b o : ℕ) (writer : Writer) → T (hasTy writerTy (writer-val writer)) × WT (writer-val writer) → Writes K W (‵ (recordAt fullShare panel b o) ∷ Γ) writerTy b (o + 268) (writer-val writer) (‵ (recordAt fullShare (withWriter panel (writer .work)) b o) ∷ Γ)
   unfolding recordAt withWriter
   writer-stored t panel b o writer wt = store-in t 0 (sub t 4 {τ = writerTy} {d = 268} writer-found (behind t recordTy)) wt
+
+-- ---- the counts, taken out of a share of the record and put back
+abbrev pub countsTy : Ty
+countsTy = tyArray (tyInt w32) 64
+
+module _ {M : Type 1} (𝓤 : URA M) (H : Heap 𝓤) (A : Atoms 𝓤) (s : Share) (panel : Record) (b o : ℕ) where
+  -- how the record takes these for its counts
+  abbrev takes-counts : Val → SProp 𝓤
+  takes-counts u = wand 𝓤 (H .at s countsTy b (o + 12) u) (H .at s (rawTy recordTy) b o (vstruct (setV (fields-of (val panel)) 3 u)))
+
+  abbrev pub counts-way : SProp 𝓤
+  counts-way = all 𝓤 takes-counts
+
+module _ {M : Type 1} {𝓤 : URA M} {H : Heap 𝓤} {A : Atoms 𝓤} {K : Type 0} {W : Given 𝓤 H A} where
+  counts-cell : K → (s : Share) (panel : Record) (b o : ℕ) → Part K W (‵ (fat s (rawTy recordTy) b o (val panel))) s countsTy b (o + 12) (counts-val (panel .counts)) (λ u. ‵ (fat s (rawTy recordTy) b o (vstruct (setV (fields-of (val panel)) 3 u))))
+  counts-cell t s panel b o = sub t 3 {τ = countsTy} {d = 12} counts-found (behind t recordTy)
+
+module _ {M : Type 1} {𝓤 : URA M} {H : Heap 𝓤} {A : Atoms 𝓤} {K : Type 0} {W : Given 𝓤 H A} {Γ : List (Item 𝓤)} {G : Goal 𝓤 H} where
+  pub counts-out : K → (s : Share) (panel : Record) (b o : ℕ) → Step K W (‵ (fat s countsTy b (o + 12) (counts-val (panel .counts))) ∷ raw (counts-way 𝓤 H A s panel b o) ∷ Γ) G (‵ (recordAt s panel b o) ∷ Γ) G
+  unfolding recordAt
+  counts-out t s panel b o = step (λ k. use1 W (‵ (fat s countsTy b (o + 12) (counts-val (panel .counts))) ⊛ raw (counts-way 𝓤 H A s panel b o)) (counts-cell {W = W} t s panel b o .out) $ split t $ k)
+
+  pub counts-in : K → (s : Share) (panel : Record) (b o : ℕ) → Step K W (‵ (recordAt s panel b o) ∷ Γ) G (‵ (fat s countsTy b (o + 12) (counts-val (panel .counts))) ∷ raw (counts-way 𝓤 H A s panel b o) ∷ Γ) G
+  unfolding recordAt
+  counts-in t s panel b o = step (λ k. move t (1 ∷ []) $ use1 W (raw (takes-counts 𝓤 H A s panel b o (counts-val (panel .counts)))) (allE 𝓤 (takes-counts 𝓤 H A s panel b o) (counts-val (panel .counts))) $ move t (1 ∷ 0 ∷ []) $
+      use2 W (‵ (fat s (rawTy recordTy) b o (val panel))) (apply∗ 𝓤 (H .at s countsTy b (o + 12) (counts-val (panel .counts))) (H .at s (rawTy recordTy) b o (val panel))) $ k)
 
 -- ---- an element of field f, an array of n elements of F
 module _ (F : Field) (L : LL.FLaws F) (n f d : ℕ) (τ : Ty) (found : fieldOf recordTy f ≡ some (tyArray τ n, d)) (panel : Record) (xs : List (F .Value)) (at-f : getV (fields-of (val panel)) f ≡ arrayVal (map (L .val) (map (F .into) xs))) (p : Is (Array (F .row) n) (map (F .into) xs) (arrayVal (map (L .val) (map (F .into) xs)) ∷ [])) where
@@ -219,6 +250,10 @@ module _ (panel : Record) (is : Holds panel) where
 
   pub counts-hold : CountsHold (panel .counts)
   counts-hold = LL.owed RecordType.the-type RecordLaws.the-laws panel (val panel ∷ []) is .1 .1 .1 .0
+
+  -- the same, written as a function over the counts has it
+  pub counts-are : Is (Array u32 64) (panel .counts) (counts-val (panel .counts) ∷ [])
+  counts-are = subst (λ (ys : List ℕ). Is (Array u32 64) ys (counts-val (panel .counts) ∷ [])) (map-same (panel .counts)) counts-hold
 
   pub writer-holds : WriterHolds (panel .writer)
   writer-holds = LL.owed RecordType.the-type RecordLaws.the-laws panel (val panel ∷ []) is .1 .1 .1 .1 .0

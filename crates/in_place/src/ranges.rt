@@ -39,7 +39,7 @@ pub(crate) fn fits_at(panel: &Record, lent: usize) -> bool
     let k = panel.k;
     let reach = panel.reach;
     let writer = panel.writer;
-    let counts = are_counts_in_range(panel.counts, m, k);
+    let counts = are_counts_in_range(&panel.counts, m, k);
     let readers = are_readers_in_range(panel, m, k);
     let stations = are_stations_in_range(panel);
     are_parts_in_range(lent, m, k, reach, counts, writer, readers, stations)

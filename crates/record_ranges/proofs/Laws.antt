@@ -2,22 +2,35 @@
 -- part does to the ranges; that a fresh record is in range and the record of zeros never is.
 use Prim.Native.Nat.{ℕ, _≤_}
 use mathlib.Core.Path.{_≡_, refl}
-use mathlib.Core.Bool.{true, false}
+use mathlib.Core.Bool.{true, false, false≢true}
 use native.Mathlib.Omega.{arith}
-use borrow.Author.Tests.{leb-true, le-leb, eqb-true}
+use borrow.Author.Tests.{leb-true, le-leb, eqb-true, eq-eqb}
 use lib.Dec.{leb, eqb, leb·zero}
 use lib.ListN.{replicate}
 use Rattle.conditions.specs.Conditions.{both, either, within}
 use Rattle.conditions.proofs.ConditionLaws.{both-left, both-right, both-true, within-low, within-high}
 use Rattle.record.specs.declared.Record.{Record}
 use Rattle.record.specs.declared.ReaderWork.{ReaderWork}
+use Rattle.record.specs.declared.ReaderWork.the-variants.{Idle, LookingUp, Walking}
 use Rattle.record.specs.declared.WriterWork.{WriterWork}
 use Rattle.record.specs.declared.Station.{Station}
 use Rattle.record.specs.Parts.{idleReader, freshRecord, workOf, withWork, withWriter, withReach, countOf, withCount, withStation, withCounts, withReaders, withStations}
+use Rattle.record.specs.Idle.{isReaderIdle}
 use Rattle.record_ranges.specs.Ranges.{all, sizesInRange, countsInRange, readerInRange, readersInRange, stationInRange, stationsInRange, partsInRange, inRange}
 use Rattle.work_ranges.specs.WorkRanges.{workInRange, writerInRange}
 use Rattle.record_ranges.proofs.All.{all-at, all-set, all-take, all-replicate}
 use Rattle.record_ranges.proofs.NumberedRanges.{all-replaced, all-first-replaced, all-first-at}
+
+-- a reader without work, and a station that sent no command, are in range
+pub idle-in-range : (m k : ℕ) (work : ReaderWork) → isReaderIdle work ≡ true → workInRange m k work ≡ true
+unfolding workInRange
+idle-in-range m k Idle e = refl
+idle-in-range m k (LookingUp lookup) e = absurd (false≢true e)
+idle-in-range m k (Walking walk) e = absurd (false≢true e)
+
+pub unheard-in-range : (station : Station) → station .number ≡ 0 → stationInRange station ≡ true
+unfolding stationInRange both either
+unheard-in-range station e = rw (le-leb (station .number) 16777215 (omega arith), eq-eqb (station .number) 0 e)
 
 -- the numbers of a record in range
 pub record Sizes (m k lent : ℕ) : Type 0 where

@@ -8,6 +8,7 @@ use record::Reader;
 use record::Record;
 use record::Station;
 use record::Writer;
+use record::idle::is_reader_idle;
 use slot_words::points::is_valid_point;
 use work_ranges::is_work_in_range;
 use work_ranges::is_writer_in_range;
@@ -57,14 +58,16 @@ fn are_stations_in_range(stations: [Station; 32]) -> bool
 }
 
 // Only the counts of indices 1 to k are fields.
-pub fn are_counts_in_range(counts: [u32; 64], m: u32, k: u32) -> bool
-    ensures { λ r. ⌜ r ≡ countsInRange m k counts ⌝ }
+pub fn are_counts_in_range(counts: &[u32; 64], m: u32, k: u32) -> bool
+    ensures { λ r. ⌜ r ≡ countsInRange m k (now (counts .entry)) ⌝ }
 {
-    for i in 0..64 {
+    let each: &[u32] = counts;
+    let n = each.len();
+    for i in 0..n {
         if k as usize <= i {
             return true;
         }
-        if m < counts[i] {
+        if m < each[i] {
             return false;
         }
     }
@@ -81,17 +84,24 @@ pub fn are_sizes_in_range(m: u32, k: u32, lent: usize) -> bool
 }
 
 // Whether what was tested before and this reader are in range: a turn of a loop over readers behind a
-// reference, which no function by value has.
+// reference, which no function by value has. Most readers have no work, and leave nothing to test.
 pub fn reader_joined(before: bool, reader: Reader, m: u32, k: u32) -> bool
     ensures { λ r. ⌜ r ≡ both before (readerInRange m k reader) ⌝ }
 {
-    both_hold(before, is_reader_in_range(reader, m, k))
+    let work = reader.work;
+    if is_reader_idle(work) {
+        return before;
+    }
+    both_hold(before, is_work_in_range(work, m, k))
 }
 
 // The same of a station.
 pub fn station_joined(before: bool, station: Station) -> bool
     ensures { λ r. ⌜ r ≡ both before (stationInRange station) ⌝ }
 {
+    if station.number == 0 {
+        return before;
+    }
     both_hold(before, is_station_in_range(station))
 }
 
@@ -134,7 +144,7 @@ pub fn is_in_range(panel: Record, lent: usize) -> bool
         panel.m,
         panel.k,
         panel.reach,
-        are_counts_in_range(counts, panel.m, panel.k),
+        are_counts_in_range(&counts, panel.m, panel.k),
         writer,
         are_readers_in_range(readers, panel.m, panel.k),
         are_stations_in_range(stations),

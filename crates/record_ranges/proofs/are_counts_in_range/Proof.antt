@@ -3,6 +3,7 @@ use Prim.Native.Nat.{ℕ, _≤_, _-_}
 use mathlib.Core.Path.{_≡_, _∙_, sym, refl}
 use mathlib.Core.Bool.{Bool}
 use native.Mathlib.Omega.{arith}
+use denote.Ref.{now}
 use borrow.Author.Tests.{lt-leb, le-leb}
 use borrow.Author.Needs.{needs}
 use lib.ListN.{length, take, drop, length-take}
@@ -16,33 +17,33 @@ abbrev fits : ℕ → ℕ → Bool
 fits m count = leb count m
 
 abbrev Inv-loop : tie.InvT-loop
-Inv-loop m k counts i₀ i = (i ≤ 64) × (length counts ≡ 64) × (all (fits m) (drop i (take k counts)) ≡ all (fits m) (take k counts))
+Inv-loop counts m k each n i₀ i = (i ≤ length counts) × (all (fits m) (drop i (take k counts)) ≡ all (fits m) (take k counts))
 
 abbrev μ-loop : tie.MeasureT-loop
-μ-loop m k counts i₀ i = 64 - i
+μ-loop counts m k each n i₀ i = n - i
 
 loop-holds : tie.Need-loop-holds Inv-loop μ-loop
-loop-holds c = (search needs, c .good .0 .1 .0 .1, refl)
+loop-holds c = (search needs, refl)
 
 returns : tie.Need-returns Inv-loop μ-loop
 unfolding countsInRange
 returns c =
-    let a = c .before .before .before .args in
+    let a = c .before .before .before .before .args in
     let l = c .before .before .loop in
-    sym (sym (l .inv .2) ∙ first-done (fits (a .m)) (a .t1) (a .k) (l .i) (c .if1 .taken))
+    sym (sym (l .inv .1) ∙ first-done (fits (a .m)) (now (a .counts)) (a .k) (l .i) (c .if1 .taken))
 
 mul-if2 : tie.Need-mul-if2 Inv-loop μ-loop
 mul-if2 c = search needs
 
-array-read-if2 : tie.Need-array-read-if2 Inv-loop μ-loop
-array-read-if2 c = search needs
+shared-slice-read-if2 : tie.Need-shared-slice-read-if2 Inv-loop μ-loop
+shared-slice-read-if2 c = search needs
 
 returns-2 : tie.Need-returns-2 Inv-loop μ-loop
 unfolding countsInRange
 returns-2 c =
-    let a = c .before .before .before .before .args in
-    let l = c .before .before .before .loop in
-    sym (sym (l .inv .2) ∙ first-fails (fits (a .m)) (a .t1) (a .k) (l .i) (omega arith) (omega arith) (lt-leb _ (a .m) (c .if2 .taken)))
+    let a = c .before .before .before .before .before .before .args in
+    let l = c .before .before .before .before .loop in
+    sym (sym (l .inv .1) ∙ first-fails (fits (a .m)) (now (a .counts)) (a .k) (l .i) (omega arith) (omega arith) (lt-leb _ (a .m) (c .if2 .taken)))
 
 add-i : tie.Need-add-i Inv-loop μ-loop
 add-i c = search needs
@@ -52,19 +53,18 @@ loop-less c = search needs
 
 loop-again : tie.Need-loop-again Inv-loop μ-loop
 loop-again c =
-    let a = c .before .before .before .before .args in
-    let l = c .before .before .before .loop in (
+    let a = c .before .before .before .before .before .before .args in
+    let l = c .before .before .before .before .loop in (
       search needs,
-      l .inv .1,
-      first-passes (fits (a .m)) (a .t1) (a .k) (l .i) (omega arith) (omega arith) (le-leb _ (a .m) (c .if2 .left)) ∙ l .inv .2,
+      first-passes (fits (a .m)) (now (a .counts)) (a .k) (l .i) (omega arith) (omega arith) (le-leb _ (a .m) (c .if2 .left)) ∙ l .inv .1,
     )
 
 returns-3 : tie.Need-returns-3 Inv-loop μ-loop
 unfolding countsInRange
 returns-3 c =
-    let a = c .before .before .args in
+    let a = c .before .before .before .args in
     let l = c .before .loop in
-    sym (sym (l .inv .2) ∙ all-done (fits (a .m)) (take (a .k) (a .t1)) (l .i) (omega (arith, length-take (a .k) (a .t1))))
+    sym (sym (l .inv .1) ∙ all-done (fits (a .m)) (take (a .k) (now (a .counts))) (l .i) (omega (arith, length-take (a .k) (now (a .counts)))))
 
 pub are-counts-in-range-spec : {M : Type 1} → statement M
 are-counts-in-range-spec =
@@ -75,7 +75,7 @@ are-counts-in-range-spec =
     loop-holds
     returns
     mul-if2
-    array-read-if2
+    shared-slice-read-if2
     returns-2
     add-i
     loop-less

@@ -1,17 +1,15 @@
 -- `record_ranges::is_station_in_range` meets its contract: number 0 settles the definition's tests, any other leaves them.
-use native.Mathlib.Omega.{arith}
+use mathlib.Core.Path.{sym}
 use borrow.Author.Needs.{needs}
-use borrow.Author.Tests.{le-leb, eq-eqb, ne-eqb}
-use Rattle.conditions.specs.Conditions.{both, either}
+use borrow.Author.Tests.{ne-eqb}
+use Rattle.conditions.specs.Conditions.{either}
 use Rattle.record_ranges.specs.Ranges.{stationInRange}
+use Rattle.record_ranges.proofs.Laws.{unheard-in-range}
 use Rattle.record_ranges.proofs.is_station_in_range.Statement.{statement}
 use Rattle.record_ranges.proofs.is_station_in_range.Tie as tie
 
 returns : tie.Need-returns
-unfolding stationInRange both either
-returns c =
-    let s = c .before .before .args .station in
-    rw (le-leb (s .number) 16777215 (omega arith), eq-eqb (s .number) 0 (c .if1 .taken))
+returns c = sym (unheard-in-range (c .before .before .args .station) (c .if1 .taken))
 
 is-valid-point-requires : tie.Need-is-valid-point-requires
 is-valid-point-requires c κs = search needs

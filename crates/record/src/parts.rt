@@ -99,16 +99,17 @@ pub fn with_reach(panel: Record, reach: u32) -> Record
 }
 
 // How many stored points use an index, 1 to 64, by the counts; of another index none do.
-pub fn count_in(counts: [u32; 64], index: u32) -> u32
-    ensures { λ r. ⌜ r ≡ countIn counts index ⌝ }
+pub fn count_in(counts: &[u32; 64], index: u32) -> u32
+    ensures { λ r. ⌜ r ≡ countIn (now (counts .entry)) index ⌝ }
 {
+    let all: &[u32] = counts;
     if index == 0 {
         return 0;
     }
-    if 64 < index {
+    if all.len() < index as usize {
         return 0;
     }
-    counts[(index - 1) as usize]
+    all[(index - 1) as usize]
 }
 
 // The same by the record.
@@ -116,7 +117,7 @@ pub fn count_of(panel: Record, index: u32) -> u32
     ensures { λ r. ⌜ r ≡ countOf panel index ⌝ }
 {
     let counts = panel.counts;
-    count_in(counts, index)
+    count_in(&counts, index)
 }
 
 // The record with an index's count replaced; with an index outside 1 to 64 the record as it is.

@@ -42,8 +42,8 @@ pub(crate) fn with_uncounted(panel: Record, index: u32) -> Record
 }
 
 // The largest index of 1 to k that is counted, or 0.
-pub fn largest_counted(k: u32, counts: [u32; 64]) -> u32
-    ensures { λ r. ⌜ r ≡ largestCounted k counts ⌝ }
+pub fn largest_counted(k: u32, counts: &[u32; 64]) -> u32
+    ensures { λ r. ⌜ r ≡ largestCounted k (now (counts .entry)) ⌝ }
 {
     let mut index = k;
     while 0 < index {

@@ -23,8 +23,8 @@ use search::search_access;
 use search::search_advance;
 
 // Part 1: the access that comes next.
-pub fn removal_access(m: u32, k: u32, counts: [u32; 64], removal: Removal) -> WriterAccess
-    ensures { λ r. ⌜ r ≡ removalAccess m k counts removal ⌝ }
+pub fn removal_access(m: u32, k: u32, counts: &[u32; 64], removal: Removal) -> WriterAccess
+    ensures { λ r. ⌜ r ≡ removalAccess m k (now (counts .entry)) removal ⌝ }
 {
     let stage = removal.stage;
     match stage {
@@ -37,8 +37,14 @@ pub fn removal_access(m: u32, k: u32, counts: [u32; 64], removal: Removal) -> Wr
 }
 
 // Part 3: what follows from the reach, or from the word read or stored.
-pub fn removal_advance(k: u32, reach: u32, counts: [u32; 64], removal: Removal, word: u64) -> Effect
-    ensures { λ r. ⌜ paperEffect r ≡ removalAdvance k reach counts removal word ⌝ }
+pub fn removal_advance(
+    k: u32,
+    reach: u32,
+    counts: &[u32; 64],
+    removal: Removal,
+    word: u64,
+) -> Effect
+    ensures { λ r. ⌜ paperEffect r ≡ removalAdvance k reach (now (counts .entry)) removal word ⌝ }
 {
     let stage = removal.stage;
     match stage {
@@ -87,16 +93,16 @@ pub fn removal_answered(removal: Removal, answer: SearchAnswer) -> Effect
 }
 
 // The index is the reach, and no point uses it once this one is uncounted.
-fn is_last(reach: u32, counts: [u32; 64], index: u32) -> bool
-    ensures { λ r. ⌜ r ≡ isLast reach counts index ⌝ }
+fn is_last(reach: u32, counts: &[u32; 64], index: u32) -> bool
+    ensures { λ r. ⌜ r ≡ isLast reach (now (counts .entry)) index ⌝ }
 {
     let left = one_less(count_in(counts, index));
     both_hold(left == 0, index == reach)
 }
 
 // The slot is emptied. The reach is lowered by a step of its own.
-fn removal_empties(reach: u32, counts: [u32; 64], removal: Removal, index: u32) -> Effect
-    ensures { λ r. ⌜ paperEffect r ≡ removalEmpties reach counts removal index ⌝ }
+fn removal_empties(reach: u32, counts: &[u32; 64], removal: Removal, index: u32) -> Effect
+    ensures { λ r. ⌜ paperEffect r ≡ removalEmpties reach (now (counts .entry)) removal index ⌝ }
 {
     if is_last(reach, counts, index) {
         return removal_at(removal, RemovalStage::Lowering, Update::Uncounted(index));
@@ -105,8 +111,8 @@ fn removal_empties(reach: u32, counts: [u32; 64], removal: Removal, index: u32) 
 }
 
 // The reach is lowered, and the removal ends.
-fn removal_lowers(k: u32, counts: [u32; 64]) -> Effect
-    ensures { λ r. ⌜ paperEffect r ≡ removalLowers k counts ⌝ }
+fn removal_lowers(k: u32, counts: &[u32; 64]) -> Effect
+    ensures { λ r. ⌜ paperEffect r ≡ removalLowers k (now (counts .entry)) ⌝ }
 {
     let lowered = largest_counted(k, counts);
     ended(Update::Reach(lowered), Ending::Removed(lowered))

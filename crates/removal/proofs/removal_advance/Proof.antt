@@ -1,5 +1,6 @@
 -- `removal::removal_advance` meets its contract, stage by stage.
 use mathlib.Core.Path.{_∙_, sym, ap}
+use denote.Ref.{now}
 use borrow.Author.Needs.{needs}
 use Rattle.record.specs.declared.RemovalStage.{RemovalStage}
 use Rattle.removal.specs.Removal.{removalAdvance, removalStageAdvance, removalSearched}
@@ -33,13 +34,13 @@ returns c =
     let a = c .before .before .before .before .before .args in
     c .removal-searched .ensures
     ∙ ap (removalSearched (a .removal)) (c .before .search-advance .ensures)
-    ∙ sym (ap (λ (stage : RemovalStage). removalStageAdvance (a .k) (a .reach) (a .counts) (a .removal) stage (a .word)) (c .before .before .before .stage .given .1))
+    ∙ sym (ap (λ (stage : RemovalStage). removalStageAdvance (a .k) (a .reach) (now (a .counts)) (a .removal) stage (a .word)) (c .before .before .before .stage .given .1))
 
 returns-2 : tie.Need-returns-2
 unfolding removalAdvance removalStageAdvance
 returns-2 c =
     let a = c .before .before .before .before .args in
-    c .removal-empties .ensures ∙ sym (ap (λ (stage : RemovalStage). removalStageAdvance (a .k) (a .reach) (a .counts) (a .removal) stage (a .word)) (c .before .before .stage2 .given .1))
+    c .removal-empties .ensures ∙ sym (ap (λ (stage : RemovalStage). removalStageAdvance (a .k) (a .reach) (now (a .counts)) (a .removal) stage (a .word)) (c .before .before .stage2 .given .1))
 
 returns-3 : tie.Need-returns-3
 unfolding removalAdvance removalStageAdvance

@@ -19,11 +19,11 @@ pub fn step_writer(panel: Record, slots: &mut [u64]) -> StepOutcome
     let station = stations[at];
     let counts = panel.counts;
     let next = step_work(
+        &counts,
         fits,
         panel.m,
         panel.k,
         panel.reach,
-        counts,
         writer,
         station,
         slots,

@@ -58,10 +58,10 @@ pub fn writer_access(
     m: u32,
     k: u32,
     reach: u32,
-    counts: [u32; 64],
+    counts: &[u32; 64],
     work: WriterWork,
 ) -> WriterAccess
-    ensures { λ r. ⌜ r ≡ workAccess m k reach counts work ⌝ }
+    ensures { λ r. ⌜ r ≡ workAccess m k reach (now (counts .entry)) work ⌝ }
 {
     match work {
         WriterWork::Idle => WriterAccess::Read(ReadAccess::Nothing),
@@ -76,12 +76,12 @@ pub fn writer_access(
 pub fn writer_advance(
     k: u32,
     reach: u32,
-    counts: [u32; 64],
+    counts: &[u32; 64],
     work: WriterWork,
     slot: u32,
     word: u64,
 ) -> Effect
-    ensures { λ r. ⌜ paperEffect r ≡ workAdvance k reach counts work slot word ⌝ }
+    ensures { λ r. ⌜ paperEffect r ≡ workAdvance k reach (now (counts .entry)) work slot word ⌝ }
 {
     match work {
         WriterWork::Idle => underway(WriterWork::Idle),
@@ -109,11 +109,11 @@ fn run_step(
     m: u32,
     k: u32,
     reach: u32,
-    counts: [u32; 64],
+    counts: &[u32; 64],
     work: WriterWork,
     slots: &mut [u64],
 ) -> WorkStep
-    ensures { λ r. ⌜ paperWork r (now (slots .exit)) ≡ workRuns m k reach counts work (now (slots .entry)) ⌝ }
+    ensures { λ r. ⌜ paperWork r (now (slots .exit)) ≡ workRuns m k reach (now (counts .entry)) work (now (slots .entry)) ⌝ }
 {
     let access = writer_access(m, k, reach, counts, work);
     let word = perform(slots, access);
@@ -135,11 +135,11 @@ fn judged_step(
     m: u32,
     k: u32,
     reach: u32,
-    counts: [u32; 64],
+    counts: &[u32; 64],
     work: WriterWork,
     slots: &mut [u64],
 ) -> WorkStep
-    ensures { λ r. ⌜ paperWork r (now (slots .exit)) ≡ stepWork fits m k reach counts work (now (slots .entry)) ⌝ }
+    ensures { λ r. ⌜ paperWork r (now (slots .exit)) ≡ stepWork fits m k reach (now (counts .entry)) work (now (slots .entry)) ⌝ }
 {
     match judge_step(fits, work) {
         Judged::Refused(refusal) => WorkStep {
@@ -177,16 +177,16 @@ pub fn station_at(writer: Writer) -> usize
 // The next step of a writer, by whether the record is in range, by its numbers and counts, and by the last
 // command of the station at `station_at`.
 pub fn step_work(
+    counts: &[u32; 64],
     fits: bool,
     m: u32,
     k: u32,
     reach: u32,
-    counts: [u32; 64],
     writer: Writer,
     station: Station,
     slots: &mut [u64],
 ) -> SteppedWriter
-    ensures { λ r. ⌜ paperStores r (now (slots .exit)) ≡ stores m reach counts station (stepWork fits m k reach counts (writer .work) (now (slots .entry))) ⌝ }
+    ensures { λ r. ⌜ paperStores r (now (slots .exit)) ≡ stores m reach (now (counts .entry)) station (stepWork fits m k reach (now (counts .entry)) (writer .work) (now (slots .entry))) ⌝ }
 {
     let work = writer.work;
     let after = judged_step(fits, m, k, reach, counts, work, slots);

@@ -38,11 +38,11 @@ element-write-after c = rw (ap (λ (p : StepStores). p .at) (c .before .before .
 
 mul-last : tie.Need-mul-last
 mul-last c =
-    let below : c .before .before .before .before .before .before .before .before .before .station-at .result < 32 = rw (c .before .before .before .before .before .before .before .before .before .station-at .ensures) (station-at-below _) in
+    let below : c .before .before .before .before .before .before .before .before .before .before .station-at .result < 32 = rw (c .before .before .before .before .before .before .before .before .before .before .station-at .ensures) (station-at-below _) in
     search needs
 
 element-set-from-last : tie.Need-element-set-from-last
-element-set-from-last c = rw (c .before .before .before .before .before .before .before .before .before .station-at .ensures) (station-at-below _)
+element-set-from-last c = rw (c .before .before .before .before .before .before .before .before .before .before .station-at .ensures) (station-at-below _)
 
 same-length : tie.Need-same-length
 same-length c = search needs
@@ -50,13 +50,13 @@ same-length c = search needs
 returns : tie.Need-returns
 unfolding withReach withCounts withStations withWriter
 returns c =
-    let a = c .before .before .before .before .before .before .before .before .before .before .before .before .before .args in
+    let a = c .before .before .before .before .before .before .before .before .before .before .before .before .before .before .args in
     let p = a .panel in
     let s = now (a .slots) in
     let work = p .writer .work in
     let next = c .before .before .before .before .step-work in
-    let at = c .before .before .before .before .before .before .before .before .before .station-at .ensures in
-    let fits = c .before .before .before .before .before .before .before .before .before .before .before .is-in-range .ensures in
+    let at = c .before .before .before .before .before .before .before .before .before .before .station-at .ensures in
+    let fits = c .before .before .before .before .before .before .before .before .before .before .before .before .is-in-range .ensures in
     (λ j. storedIn p (at j) (next .ensures j))
     ∙ (λ j. storedIn p (stationAt work) (stores (p .m) (p .reach) (p .counts) (getD (p .stations) (at j) unheardStation) (stepWork (fits j) (p .m) (p .k) (p .reach) (p .counts) work s)))
     ∙ step-in-place p s

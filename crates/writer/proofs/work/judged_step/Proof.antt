@@ -27,7 +27,7 @@ unfolding stepWork
 returns c =
     let a = c .before .before .before .before .before .args in
     let s = now (a .slots) in
-    let done = workRuns (a .m) (a .k) (a .reach) (a .counts) (a .work) s in
+    let done = workRuns (a .m) (a .k) (a .reach) (now (a .counts)) (a .work) s in
     let verdict = sym (ap paperJudged (c .before .refusal .given .1)) ∙ c .before .before .before .judge-step .ensures in
     sym (refused-call (workLeft (a .work) s) done (c .before .refusal .given .0 .0)) ∙ ap (λ (n : ℕ). unlessRefused n (workLeft (a .work) s) done) verdict
 
@@ -39,7 +39,7 @@ unfolding stepWork
 returns-2 c =
     let a = c .before .before .before .before .before .before .before .before .args in
     let s = now (a .slots) in
-    let done = workRuns (a .m) (a .k) (a .reach) (a .counts) (a .work) s in
+    let done = workRuns (a .m) (a .k) (a .reach) (now (a .counts)) (a .work) s in
     let verdict = sym (ap paperJudged (c .before .before .before .before .enum-told .given .1)) ∙ c .before .before .before .before .before .before .judge-step .ensures in
     c .before .before .run-step .ensures ∙ sym (allowed-call (workLeft (a .work) s) done) ∙ ap (λ (n : ℕ). unlessRefused n (workLeft (a .work) s) done) verdict
 

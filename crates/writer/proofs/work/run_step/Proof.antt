@@ -36,7 +36,7 @@ returns c =
     let slot = c .before .before .slot-stored .ensures ∙ ap slotStored access in
     let word = performed .0 ∙ ap (accessRead s) access in
     let advance = c .before .writer-advance in
-    let effect = advance .ensures ∙ (λ j. workAdvance (a .k) (a .reach) (a .counts) (a .work) (slot j) (word j)) in
+    let effect = advance .ensures ∙ (λ j. workAdvance (a .k) (a .reach) (now (a .counts)) (a .work) (slot j) (word j)) in
     (λ j. record { work = advance .result .work; update = advance .result .update; slots = performed .1 j; answer = c .result-of .ensures j })
     ∙ (λ j. afterAccess (slotsAfter s (access j)) (effect j))
 

@@ -1,5 +1,6 @@
 -- `writer::work::step_work` meets its contract: each part by what the update makes of it.
 use Prim.Native.Nat.{_<_}
+use denote.Ref.{now}
 use borrow.Author.Needs.{needs}
 use Rattle.effects.proofs.EffectLaws.{count-place-below}
 use Rattle.writer.proofs.WorkLaws.{handed-back}
@@ -17,8 +18,8 @@ mul-count c =
     let below : c .count-place .result < 64 = rw (c .count-place .ensures) (count-place-below _) in
     search needs
 
-array-read-count : tie.Need-array-read-count
-array-read-count c = rw (c .count-place .ensures) (count-place-below _)
+element-copy-out-count : tie.Need-element-copy-out-count
+element-copy-out-count c = rw (c .count-place .ensures) (count-place-below _)
 
 reach-after-requires : tie.Need-reach-after-requires
 reach-after-requires c κs = search needs
@@ -34,8 +35,8 @@ same-length c = search needs
 
 returns : tie.Need-returns
 returns c =
-    let a = c .before .before .before .before .before .before .before .before .before .args in
-    handed-back (a .m) (a .reach) (a .t5) (a .station) (c .before .before .before .before .before .before .judged-step .ensures) (c .before .before .reach-after .ensures) (c .before .before .before .count-place .ensures) (c .before .count-after .ensures) (c .station-after .ensures)
+    let a = c .before .before .before .before .before .before .before .before .before .before .args in
+    handed-back (a .m) (a .reach) (now (a .counts)) (a .station) (c .before .before .before .before .before .before .before .judged-step .ensures) (c .before .before .reach-after .ensures) (c .before .before .before .before .count-place .ensures) (c .before .count-after .ensures) (c .station-after .ensures)
 
 pub step-work-spec : {M : Type 1} → statement M
 step-work-spec =
@@ -44,7 +45,7 @@ step-work-spec =
     judged-step-requires
     count-place-requires
     mul-count
-    array-read-count
+    element-copy-out-count
     reach-after-requires
     count-after-requires
     station-after-requires

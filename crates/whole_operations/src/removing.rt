@@ -58,10 +58,10 @@ fn steps(panel: Record, slots: &mut [u64], begun: Effect, budget: u64) -> Ran
     let mut left = while_underway(budget, goes_on(progress));
     while 0 < left {
         let counts = held.counts;
-        let made = writer_access(held.m, held.k, held.reach, counts, work);
+        let made = writer_access(held.m, held.k, held.reach, &counts, work);
         let word = perform(slots, made);
         let slot = slot_stored(made);
-        let next = writer_advance(held.k, held.reach, counts, work, slot, word);
+        let next = writer_advance(held.k, held.reach, &counts, work, slot, word);
         work = next.work;
         progress = next.progress;
         let update = next.update;

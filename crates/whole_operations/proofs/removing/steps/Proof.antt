@@ -70,7 +70,7 @@ index-uncounted-requires : tie.Need-index-uncounted-requires Inv-loop μ-loop
 index-uncounted-requires c κs = search needs
 
 sub-while-underway : tie.Need-sub-while-underway Inv-loop μ-loop
-sub-while-underway c = omega (arith, c .before .before .before .before .before .before .before .before .before .before .loop-test)
+sub-while-underway c = omega (arith, c .before .before .before .before .before .before .before .before .before .before .before .before .loop-test)
 
 goes-on-requires-2 : tie.Need-goes-on-requires-2 Inv-loop μ-loop
 goes-on-requires-2 c κs = search needs
@@ -79,15 +79,15 @@ while-underway-requires-2 : tie.Need-while-underway-requires-2 Inv-loop μ-loop
 while-underway-requires-2 c κs = search needs
 
 loop-less : tie.Need-loop-less Inv-loop μ-loop
-loop-less c = fewer (c .before .before .before .before .before .before .before .before .before .before .before .before .before .loop .left) _ (c .before .goes-on2 .result) (omega (arith, c .before .before .before .before .before .before .before .before .before .before .before .before .loop-test)) (c .while-underway2 .ensures)
+loop-less c = fewer (c .before .before .before .before .before .before .before .before .before .before .before .before .before .before .before .loop .left) _ (c .before .goes-on2 .result) (omega (arith, c .before .before .before .before .before .before .before .before .before .before .before .before .before .before .loop-test)) (c .while-underway2 .ensures)
 
 loop-again : tie.Need-loop-again Inv-loop μ-loop
 unfolding updated withWriter
 loop-again c =
-    let panel = c .before .before .before .before .before .before .before .before .before .before .before .before .before .before .before .before .before .args .panel in
-    let l = c .before .before .before .before .before .before .before .before .before .before .before .before .before .loop in
-    let more = c .before .before .before .before .before .before .before .before .before .before .before .before .loop-test in
-    let performed = c .before .before .before .before .before .before .before .before .perform .ensures in
+    let panel = c .before .before .before .before .before .before .before .before .before .before .before .before .before .before .before .before .before .before .before .args .panel in
+    let l = c .before .before .before .before .before .before .before .before .before .before .before .before .before .before .before .loop in
+    let more = c .before .before .before .before .before .before .before .before .before .before .before .before .before .before .loop-test in
+    let performed = c .before .before .before .before .before .before .before .before .before .perform .ensures in
     let advances = c .before .before .before .before .writer-advance in
     let goes = l .inv .1 .goes (omega arith) in
     let updates =
@@ -97,7 +97,7 @@ loop-again c =
     (c .before .before .before .match .came) in
     let takes =
     step-beside (l .held) (c .before .before .before .match .held) (l .slots) _ (l .work) (stepAnswer (paperProgress (l .progress))) _ _ _ (paperEffect (advances .result)) (l .inv .1 .holds) goes
-    (c .before .before .before .before .before .before .before .before .before .before .writer-access .ensures) (c .before .before .before .before .before .slot-stored .ensures) (performed .0) (performed .1) (advances .ensures) updates in
+    (c .before .before .before .before .before .before .before .before .before .before .before .writer-access .ensures) (c .before .before .before .before .before .before .slot-stored .ensures) (performed .0) (performed .1) (advances .ensures) updates in
     let kept = step-keeps panel (l .held) (l .index) (l .work) _ _ (l .inv .2) (works _ (l .inv .1 .holds) goes) in
     let effect = advances .ensures in
     let held = updates ∙ ap (λ (m : WriterEffect). updated (l .held) (m .update)) effect in

@@ -117,11 +117,11 @@ pub fn step_writer(panel: &mut Record, slots: &mut [u64]) -> StepAnswer
     let at = writer::station_at(writer);
     let station = panel.stations[at];
     let next = writer::step_work(
+        &panel.counts,
         fits,
         panel.m,
         panel.k,
         panel.reach,
-        panel.counts,
         writer,
         station,
         slots,

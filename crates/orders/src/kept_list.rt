@@ -55,7 +55,7 @@ fn stores_now(panel: Record, answer: CallAnswer, call: Call) -> bool
     let writer = panel.writer;
     let work = writer.work;
     let counts = panel.counts;
-    let access = writer_access(panel.m, panel.k, panel.reach, counts, work);
+    let access = writer_access(panel.m, panel.k, panel.reach, &counts, work);
     let stores = both_hold(!is_refused(answer), stores_slot(access));
     both_hold(is_writer_step(call), stores)
 }

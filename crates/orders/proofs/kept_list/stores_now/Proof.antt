@@ -29,7 +29,7 @@ both-hold-requires-2 c κs = search needs
 
 returns : tie.Need-returns
 returns c frame =
-    let a = c .before .before .before .before .before .before .before .before .args in
+    let a = c .before .before .before .before .before .before .before .before .before .args in
     c .both-hold2 .ensures
     ∙ ap₂ both (c .before .is-writer-step .ensures)
     (c .before .before .both-hold .ensures

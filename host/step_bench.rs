@@ -15,12 +15,12 @@ const RUST: &str = "target/host/expected_step_speed";
 const LOG: &str = "target/host/callgrind.log";
 const ROUNDS: usize = 7;
 
-/// A kind of call, the letter that asks for it, and powers of ten: of the runs that are timed, at 16
-/// and at 4096 slots, and of the shorter of the two runs whose instructions are counted.
+/// A kind of call, the letter that asks for it, and powers of ten: of the runs that are timed, and of
+/// the shorter of the two runs whose instructions are counted.
 struct Kind {
     name: &'static str,
     letter: char,
-    timed: [u32; 2],
+    timed: u32,
     counted: u32,
 }
 
@@ -28,19 +28,19 @@ const KINDS: [Kind; 3] = [
     Kind {
         name: "reader's step",
         letter: 'R',
-        timed: [4, 3],
+        timed: 5,
         counted: 0,
     },
     Kind {
         name: "writer's step",
         letter: 'W',
-        timed: [4, 4],
+        timed: 5,
         counted: 0,
     },
     Kind {
         name: "start of a lookup",
         letter: 'L',
-        timed: [5, 5],
+        timed: 6,
         counted: 1,
     },
 ];
@@ -119,7 +119,7 @@ fn row(kind: &Kind, size: usize, way: usize, counting: bool) -> Result<String, S
     let (size_letter, m) = SIZES[size];
     let (way_letter, way_name) = WAYS[way];
     let line = |digit: u32| format!("{}{way_letter}{size_letter}{digit}\n", kind.letter);
-    let (calls, proved, rust) = times(&line(kind.timed[size]))?;
+    let (calls, proved, rust) = times(&line(kind.timed))?;
     let counts = if counting {
         let (short, long) = (line(kind.counted), line(kind.counted + 1));
         let of_proved = per_call(PROVED, &short, &long)?;

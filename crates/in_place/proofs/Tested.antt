@@ -1,5 +1,5 @@
--- The walk of every function `fn f(panel: &Record, ..) -> bool { let mut fit = true; let mut i = 0; while i < n { fit = test(fit, panel.field[i], ..); i += 1; } fit }`: it tells whether the test holds of each element of a field that is an array.
--- One walk serves any such field, any length, any test and any further parameters.
+-- The walk of every function `fn f(panel: &Record, ..) -> bool { let mut fit = true; let mut i = 0; while i < n { <one>; <one>; } fit }`, where <one> is `fit = test(fit, panel.field[i], ..); i += 1;`: it tells whether the test holds of each element of a field that is an array.
+-- One walk serves any such field, any even length, any test and any further parameters.
 use mathlib.Core.Path.{_≡_, refl, ap, sym, subst, _∙_}
 use Prim.Native.Nat.{ℕ, zero, suc, _+_, _-_, _*_, _^_, _<_, _≤_}
 use native.Mathlib.Nat.{add-suc, add-zero}
@@ -25,7 +25,7 @@ use prog.Wp.{Heap, Env, Out, Wp, WpFn, Tables, afterTurn, afterBlock, afterSeq, 
 use ghost.Atoms.{Atoms, sem}
 use contract.Lifetimes.{Lfts, Shares}
 use contract.Monad.{fact}
-use types.Kit.{Given, Item, ‵, raw, _⊛_, mean, some, later, runs, anyQ, atRet, Sq, _$_, _∵_, !, qed, by, move, keep, drop as lets-go, use0, use1, split, pick, await, rewrite, fsplit, fsplit3}
+use types.Kit.{Given, Item, ‵, raw, _⊛_, mean, some, later, Post as After, runs, anyQ, atRet, Sq, _$_, _∵_, !, qed, by, move, keep, drop as lets-go, use0, use1, split, pick, await, rewrite, fsplit, fsplit3}
 use types.Run.{look, init, store, forget, stop, hop, fld, from, load, lit, of-opd, true-lit, bin, addr, and-then, assigns, assigns-last, land, stays, leaves-loop, first, blocks, loops, again, Below, exec, returns, enter, alloc1, alloc0, params1, pass1, free1, free0}
 use sound.WpLaws.{FmC, fmOf}
 use denote.Array.{Array, arrayVal}
@@ -44,6 +44,7 @@ use denote.Triple.Clauses.{Clauses}
 use denote.Triple.End.{all as each-kept, Fins, outs, lastsOf}
 use denote.Exit.{yes}
 use Rattle.conditions.specs.Conditions.{both}
+use Rattle.conditions.proofs.ConditionLaws.{both-with}
 use Rattle.record.specs.declared.Record.{Record}
 use Rattle.record_ranges.specs.Ranges.{all}
 use Rattle.in_place.proofs.Elements.{field-val, fields-of, number-of, is-element}
@@ -57,6 +58,9 @@ module _ {X : Type 0} (test : X → Bool) (none : X) (xs : List X) where
   pub record State : Type 0 where
     pub i : ℕ
     pub fit : Bool
+    -- the turns so far, of two elements each
+    pub turns : ℕ
+    pub twice : i ≡ turns + turns
     pub upto : i ≤ length xs
     pub so : both fit (all test (drop i xs)) ≡ all test xs
 
@@ -65,52 +69,55 @@ module _ {X : Type 0} (test : X → Bool) (none : X) (xs : List X) where
   true-both true = refl
   true-both false = refl
 
-  both-ends : (a : Bool) → both a true ≡ a
-  unfolding both
-  both-ends true = refl
-  both-ends false = refl
-
   both-both : (a b c : Bool) → both (both a b) c ≡ both a (both b c)
   unfolding both
   both-both true b c = refl
   both-both false b c = refl
 
   pub begins : State
-  begins = record { i = 0; fit = true; upto = omega arith; so = true-both (all test xs) }
+  begins = record { i = 0; fit = true; turns = 0; twice = refl; upto = omega arith; so = true-both (all test xs) }
+
+  -- one element more is tested
+  one-tested : (fit : Bool) (i : ℕ) → i < length xs → both (both fit (test (getD xs i none))) (all test (drop (suc i) xs)) ≡ both fit (all test (drop i xs))
+  unfolding all
+  one-tested fit i l = both-both fit (test (getD xs i none)) (all test (drop (suc i) xs)) ∙ ap (λ (ys : List X). both fit (all test ys)) (sym (drop-cons xs i none l))
 
   module _ (t : State) where
-    next : t .i < length xs → both (t .fit) (both (test (getD xs (t .i) none)) (all test (drop (suc (t .i)) xs))) ≡ both (t .fit) (all test (drop (t .i) xs))
-    unfolding all
-    next l = ap (λ (ys : List X). both (t .fit) (all test ys)) (sym (drop-cons xs (t .i) none l))
-
-    pub goes-on : t .i < length xs → (fit : Bool) → fit ≡ both (t .fit) (test (getD xs (t .i) none)) → State
-    goes-on l fit e = record {
-      i = suc (t .i);
-      fit = fit;
+    pub goes-on : suc (t .i) < length xs → (one two : Bool) → one ≡ both (t .fit) (test (getD xs (t .i) none)) → two ≡ both one (test (getD xs (suc (t .i)) none)) → State
+    goes-on l one two e₁ e₂ = record {
+      i = suc (suc (t .i));
+      fit = two;
+      turns = suc (t .turns);
+      twice = omega arith;
       upto = l;
       so =
-          ap (λ (b : Bool). both b (all test (drop (suc (t .i)) xs))) e ∙ both-both (t .fit) (test (getD xs (t .i) none)) (all test (drop (suc (t .i)) xs))
-          ∙ next l ∙ t .so;
+          ap (λ (b : Bool). both b (all test (drop (suc (suc (t .i))) xs))) e₂ ∙ one-tested one (suc (t .i)) l ∙ ap (λ (b : Bool). both b (all test (drop (suc (t .i)) xs))) e₁
+          ∙ one-tested (t .fit) (t .i) (omega arith) ∙ t .so;
     }
 
     pub ends : length xs ≤ t .i → t .fit ≡ all test xs
     unfolding all
-    ends l = sym (both-ends (t .fit)) ∙ ap (λ (ys : List X). both (t .fit) (all test ys)) (sym (drop-of-length-le xs l)) ∙ t .so
+    ends l = sym (both-with (t .fit) true refl) ∙ ap (λ (ys : List X). both (t .fit) (all test ys)) (sym (drop-of-length-le xs l)) ∙ t .so
 
 -- ---- the code, the further parameters being the locals from number 2 on
 module _ (n f : ℕ) (τ : Ty) (τs : List Ty) (#test : Name) where
   abbrev number : ℕ → ℕ
   number j = suc (suc (past τs j))
 
+  -- an element is tested, its address being made in the locals p and p + 1
+  abbrev one-of : ℕ → Code → Code
+  one-of p more = seq (assign (place (number 3) []) (op2 (mul unsigned) (copy (place (number 1) [])) (int w64 (size τ))))
+      (seq (assign (place (number p) []) (addrOf (place 1 (deref recordTy ∷ field f ∷ []))))
+      (seq (assign (place (number (suc p)) []) (op2 offset (copy (place (number p) [])) (copy (place (number 3) []))))
+      (seq (assign (place (number 6) []) (rvOpd (copy (place (number (suc p)) (deref τ ∷ [])))))
+      (seq (call #test (copy (place (number 0) []) ∷ copy (place (number 6) []) ∷ copies 2 τs) (place (number 0) [])) more))))
+
+  abbrev next-of : Code
+  next-of = assign (place (number 1) []) (op2 (add unsigned) (copy (place (number 1) [])) (int w64 1))
+
   abbrev turn-of : Code
   turn-of = seq (assign (place (number 2) []) (op2 (lt unsigned) (copy (place (number 1) [])) (int w64 n)))
-      (seq (cond (copy (place (number 2) [])) skip (exit 1))
-      (seq (assign (place (number 3) []) (op2 (mul unsigned) (copy (place (number 1) [])) (int w64 (size τ))))
-      (seq (assign (place (number 4) []) (addrOf (place 1 (deref recordTy ∷ field f ∷ []))))
-      (seq (assign (place (number 5) []) (op2 offset (copy (place (number 4) [])) (copy (place (number 3) []))))
-      (seq (assign (place (number 6) []) (rvOpd (copy (place (number 5) (deref τ ∷ [])))))
-      (seq (call #test (copy (place (number 0) []) ∷ copy (place (number 6) []) ∷ copies 2 τs) (place (number 0) []))
-      (assign (place (number 1) []) (op2 (add unsigned) (copy (place (number 1) [])) (int w64 1)))))))))
+      (seq (cond (copy (place (number 2) [])) skip (exit 1)) (one-of 4 (seq next-of (one-of 7 next-of))))
 
   abbrev rest : Code
   rest = seq (assign (place 0 []) (rvOpd (copy (place (number 0) [])))) return
@@ -121,7 +128,7 @@ module _ (n f : ℕ) (τ : Ty) (τs : List Ty) (#test : Name) where
     outlives = [];
     params = past τs 1;
     locals = local tyBool valueLocal ∷ local (tyRef (named 0) imm (pointee (row .written))) valueLocal
-        ∷ (locals τs ++ (local tyBool valueLocal ∷ local (tyInt w64) valueLocal ∷ local tyBool valueLocal ∷ local (tyInt w64) valueLocal ∷ local tyPtr valueLocal ∷ local tyPtr valueLocal ∷ local τ valueLocal ∷ []));
+        ∷ (locals τs ++ (local tyBool valueLocal ∷ local (tyInt w64) valueLocal ∷ local tyBool valueLocal ∷ local (tyInt w64) valueLocal ∷ local tyPtr valueLocal ∷ local tyPtr valueLocal ∷ local τ valueLocal ∷ local tyPtr valueLocal ∷ local tyPtr valueLocal ∷ []));
     body = seq (assign (place (number 0) []) (rvOpd opdTrue)) (seq (assign (place (number 1) []) (rvOpd (int w64 0))) (seq (block (loop turn-of)) rest));
   }
 
@@ -129,8 +136,12 @@ module _ (n f : ℕ) (τ : Ty) (τs : List Ty) (#test : Name) where
 one-more : (i : ℕ) → i + 1 ≡ suc i
 one-more i = add-suc i zero ∙ ap suc (add-zero i)
 
-by-number : (i n : ℕ) → i < n → n - suc i < n - i
+by-number : (i n : ℕ) → suc i < n → n - suc (suc i) < n - i
 by-number i n l = omega arith
+
+-- below an even number, an even number and the one after it
+both-below : (i turns n half : ℕ) → i ≡ turns + turns → n ≡ half + half → i < n → suc i < n
+both-below i turns n half e e′ l = omega arith
 
 zero-fits : 0 < 2 ^ 64
 zero-fits = omega arith
@@ -138,7 +149,7 @@ zero-fits = omega arith
 -- ---- the walk
 module _ (F : Field) (L : LL.FLaws F) (n f d : ℕ) (τ : Ty) (at : fieldOf recordTy f ≡ some (tyArray τ n, d)) (none : F .Value) (field-of : Record → List (F .Value))
     (holds-of : (panel : Record) → Holds panel → Is (Array (F .row) n) (map (F .into) (field-of panel)) (arrayVal (map (L .val) (map (F .into) (field-of panel))) ∷ []))
-    (value-of : (panel : Record) → getV (fields-of (val panel)) f ≡ arrayVal (map (L .val) (map (F .into) (field-of panel)))) (n-written : T (ltb n (2 ^ 64))) (size-written : T (ltb (size τ) (2 ^ 64))) (inside : (i : ℕ) → i < n → i * size τ < 2 ^ 64) (further : (i : ℕ) → i < n → i + 1 < 2 ^ 64) (ps : List (Param 1)) (#test : Name)
+    (value-of : (panel : Record) → getV (fields-of (val panel)) f ≡ arrayVal (map (L .val) (map (F .into) (field-of panel)))) (n-written : T (ltb n (2 ^ 64))) (size-written : T (ltb (size τ) (2 ^ 64))) (inside : (i : ℕ) → i < n → i * size τ < 2 ^ 64) (further : (i : ℕ) → i < n → i + 1 < 2 ^ 64) (half : ℕ) (even : n ≡ half + half) (ps : List (Param 1)) (#test : Name)
     {M : Type 1} (𝓤 : URA M) (H : Heap 𝓤) (A : Atoms 𝓤) (W : Given 𝓤 H A) (𝓣 : Tables 𝓤 H) (c : Clauses 𝓤 (ended ps)) (κs : Lfts 1) (qs : Shares 1) (x : RefT Record) (a : Denots (typesAt (slots ps) κs)) (γ : c κs (x, a) .ghost) (ok : Typed (tys ps) (args κs ps a))
     (test : F .Value → Bool) (typed : (y : F .Value) → Is (F .row) (F .into y) (field-val F L y ∷ []) → T (hasTy τ (field-val F L y)) × WT (field-val F L y))
     (met : (fit : Bool) (y : F .Value) → Is (F .row) (F .into y) (field-val F L y ∷ []) → ent 𝓤 (emp 𝓤) (𝓣 .C #test (vbool fit ∷ field-val F L y ∷ args κs ps a) (λ u. H .⇛ (ex 𝓤 (λ (r : Bool). sep 𝓤 (sem 𝓤 H A (bool .own r (u ∷ []))) (fact 𝓤 (r ≡ both fit (test y))))))))
@@ -186,9 +197,9 @@ module _ (F : Field) (L : LL.FLaws F) (n f d : ℕ) (τ : Ty) (at : fieldOf reco
   abbrev Post : Val → SProp 𝓤
   Post = Exit ps 𝓤 H A c κs qs x a γ
 
-  module _ (is : Holds h) (q′ : Share) (bs : Blocks τs) (l₀ l₁ l₂ l₃ l₄ l₅ l₆ l₇ l₈ : ℕ) where
+  module _ (is : Holds h) (q′ : Share) (bs : Blocks τs) (l₀ l₁ l₂ l₃ l₄ l₅ l₆ l₇ l₈ l₉ l₁₀ : ℕ) where
     abbrev behind-params : List (Ty × ℕ)
-    behind-params = (tyBool, l₂) ∷ (word, l₃) ∷ (tyBool, l₄) ∷ (word, l₅) ∷ (tyPtr, l₆) ∷ (tyPtr, l₇) ∷ (τ, l₈) ∷ []
+    behind-params = (tyBool, l₂) ∷ (word, l₃) ∷ (tyBool, l₄) ∷ (word, l₅) ∷ (tyPtr, l₆) ∷ (tyPtr, l₇) ∷ (τ, l₈) ∷ (tyPtr, l₉) ∷ (tyPtr, l₁₀) ∷ []
 
     abbrev En : Env 𝓤 H
     En = (tyBool, l₀) ∷ (refTy, l₁) ∷ (env τs bs ++ behind-params)
@@ -199,11 +210,15 @@ module _ (F : Field) (L : LL.FLaws F) (n f d : ℕ) (τ : Ty) (at : fieldOf reco
     number-is : size-of ≡ n
     number-is = sym (length-map (field-of h) (F .into)) ∙ holds-of h is .1 .0 .1
 
-    -- the context where a turn begins: [the record; fit; i; room for the test's outcome, the offset, two pointers and the element; the reference; the further parameters; room for _0; what shuts the reference; and that each local dies]
-    abbrev At : Turns → List (Item 𝓤)
-    At t = ‵ (recordAt q′ h b o) ∷ ‵ (fat fullShare tyBool l₂ 0 (vbool (t .fit))) ∷ ‵ (fat fullShare word l₃ 0 (vint w64 (t .i))) ∷ ‵ (froom tyBool l₄ 0) ∷ ‵ (froom word l₅ 0) ∷ ‵ (froom tyPtr l₆ 0) ∷ ‵ (froom tyPtr l₇ 0) ∷ ‵ (froom τ l₈ 0)
+    -- the context around a test: [the record; fit; i; room for the loop's test, the offset, two pointers la and lb and the element; two pointers more, lc and ld; the reference; the further parameters; room for _0; what shuts the reference; and that each local dies]
+    abbrev Around : Bool → ℕ → ℕ → ℕ → ℕ → ℕ → List (Item 𝓤)
+    Around fit i la lb lc ld = ‵ (recordAt q′ h b o) ∷ ‵ (fat fullShare tyBool l₂ 0 (vbool fit)) ∷ ‵ (fat fullShare word l₃ 0 (vint w64 i)) ∷ ‵ (froom tyBool l₄ 0) ∷ ‵ (froom word l₅ 0) ∷ ‵ (froom tyPtr la 0) ∷ ‵ (froom tyPtr lb 0) ∷ ‵ (froom τ l₈ 0) ∷ ‵ (froom tyPtr lc 0) ∷ ‵ (froom tyPtr ld 0)
         ∷ ‵ (fat fullShare refTy l₁ 0 (vptr b o)) ∷ ‵ (cells τs bs vs) ∷ ‵ (froom tyBool l₀ 0) ∷ ‵ (fobor κ q (partAt row q′ h b o))
-        ∷ ‵ (fdies tyBool l₀) ∷ ‵ (fdies refTy l₁) ∷ ‵ (fdies tyBool l₂) ∷ ‵ (fdies word l₃) ∷ ‵ (fdies tyBool l₄) ∷ ‵ (fdies word l₅) ∷ ‵ (fdies tyPtr l₆) ∷ ‵ (fdies tyPtr l₇) ∷ ‵ (fdies τ l₈) ∷ []
+        ∷ ‵ (fdies tyBool l₀) ∷ ‵ (fdies refTy l₁) ∷ ‵ (fdies tyBool l₂) ∷ ‵ (fdies word l₃) ∷ ‵ (fdies tyBool l₄) ∷ ‵ (fdies word l₅) ∷ ‵ (fdies tyPtr l₆) ∷ ‵ (fdies tyPtr l₇) ∷ ‵ (fdies τ l₈) ∷ ‵ (fdies tyPtr l₉) ∷ ‵ (fdies tyPtr l₁₀) ∷ []
+
+    -- where a turn begins
+    abbrev At : Turns → List (Item 𝓤)
+    At t = Around (t .fit) (t .i) l₆ l₇ l₉ l₁₀
 
     -- a turn ends nearer to the end, or the loop is left and the rest of the body runs
     abbrev Turned : Turns → Out → SProp 𝓤
@@ -214,39 +229,51 @@ module _ (F : Field) (L : LL.FLaws F) (n f d : ℕ) (τ : Ty) (at : fieldOf reco
     ended-with t over = subst (λ (w : Bool). ent 𝓤 (sem 𝓤 H A (flft κ q)) (Post (vbool w))) (sym (ends test none (field-of h) t (subst (λ (k : ℕ). k ≤ t .i) (sym number-is) (ltb-false (t .i) n over))))
         (ends-with ps 𝓤 H A c κs qs x a γ W (all test (field-of h)) l quiet so)
 
-    nearer : (t : Turns) → t .i < n → size-of - suc (t .i) < size-of - t .i
-    nearer t l = by-number (t .i) size-of (subst (λ (k : ℕ). t .i < k) (sym number-is) l)
+    nearer : (t : Turns) → suc (t .i) < n → size-of - suc (suc (t .i)) < size-of - t .i
+    nearer t l = by-number (t .i) size-of (subst (λ (k : ℕ). suc (t .i) < k) (sym number-is) l)
 
-    -- a turn that tests an element
+    -- an element is tested
+    one : (p la lb lc ld : ℕ) → getD behind-params p (noLocal 𝓤 H) ≡ (tyPtr, la) → getD behind-params (suc p) (noLocal 𝓤 H) ≡ (tyPtr, lb) → (fit : Bool) (i : ℕ) → i < n → (more : Code) (Q : After 𝓤 H)
+        → ((r : Bool) → r ≡ both fit (test (getD (field-of h) i none)) → Sq W (Around r i la lb lc ld) (runs (𝓣 .C) (𝓣 .Λ) En more Q)) → Sq W (Around fit i la lb lc ld) (runs (𝓣 .C) (𝓣 .Λ) En (one-of n f τ τs #test p more) Q)
+    one p la lb lc ld at-a at-b fit i less more Q k =
+        assigns ! (bin ! (load ! (found-local ! (is-at 1) (stop !)) (look ! 2 refl)) (lit ! size-written) (record { fits = inside i less })) (found-local ! (is-at 3) (stop !)) (init ! 4 refl (tt, record { fits = inside i less })) $
+        assigns ! (addr ! (from ! (hop ! (look ! 10 refl) (fld ! {τ = tyArray τ n} {d = d} at (stop !))))) (found-local ! (is-at p ∙ at-a) (stop !)) (init ! 5 refl (tt, tt)) $
+        assigns ! (bin ! (load ! (found-local ! (is-at p ∙ at-a) (stop !)) (look ! 5 refl)) (load ! (found-local ! (is-at 3) (stop !)) (look ! 4 refl)) tt) (found-local ! (is-at (suc p) ∙ at-b) (stop !)) (init ! 6 refl (tt, tt)) $
+        assigns ! (of-opd ! (load ! (found-local ! (is-at (suc p) ∙ at-b) (hop ! (look ! 6 refl) (stop !))) (element-read F L n f d τ at h (field-of h) (value-of h) (holds-of h is) ! q′ b o i none less))) (found-local ! (is-at 6) (stop !)) (init ! 7 refl (typed y is-y)) $
+        use0 W (raw (emp 𝓤)) (id⊢ 𝓤 _) $
+        calls-from ! (fmOf 𝓤 H (W .laws) 𝓣) (raw (emp 𝓤)) (vbool fit ∷ field-val F L y ∷ vs) _ (met fit y is-y)
+        (and-then ! (load ! (found-local ! (is-at 0) (stop !)) (look ! 2 refl)) (and-then ! (load ! (found-local ! (is-at 6) (stop !)) (look ! 8 refl)) (at-entry _ 12 (reads _ ! 2 τs bs vs ok
+        (from-next (noLocal 𝓤 H) (tyBool, l₀) _ 1 τs bs (from-next (noLocal 𝓤 H) (refTy, l₁) _ 0 τs bs (from-first (noLocal 𝓤 H) τs bs behind-params))))))) (λ u.
+        use1 W (later (some (λ (r : Bool). ‵ (bool .own r (u ∷ [])) ⊛ raw (fact 𝓤 (r ≡ both fit (test y)))))) (id⊢ 𝓤 _) $ await ! tt $ pick ! (λ r. split ! $ facts ! bool (Is bool) (shows 𝓤 H A bool) r (u ∷ []) (λ is-r.
+        heard ! (r ≡ both fit (test y)) (λ fit-is.
+        land ! (found-local ! (is-at 0) (stop !)) (store ! 1 refl (bool-lawful 𝓤 H A W .typed r (u ∷ []) is-r .0)) $ rewrite ! 1 (λ (v : Val). ‵ (fat fullShare tyBool l₂ 0 v)) (ap only (bool-tells r (u ∷ []) is-r)) refl $
+        forget ! 4 refl $ forget ! 5 refl $ forget ! 6 refl $ forget ! 7 refl $ k r fit-is))))
+      where
+        y : F .Value
+        y = getD (field-of h) i none
+
+        is-y : Is (F .row) (F .into y) (field-val F L y ∷ [])
+        is-y = is-element F L n (field-of h) _ (holds-of h is) i none less
+
+    -- a turn that tests two elements
     tests : (t : Turns) → ltb (t .i) n ≡ true → Sq W (At t) (runs (𝓣 .C) (𝓣 .Λ) En (turn-of n f τ τs #test) (anyQ (Turned t)))
     unfolding afterTurn goes-on
     tests t yet =
         assigns ! (bin ! (load ! (found-local ! (is-at 1) (stop !)) (look ! 2 refl)) (lit ! n-written) tt) (found-local ! (is-at 2) (stop !)) (init ! 3 refl (tt, tt)) $
-        rewrite ! 3 (λ (y : Bool). ‵ (fat fullShare tyBool l₄ 0 (vbool y))) yet refl $ stays ! (load ! (found-local ! (is-at 2) (stop !)) (look ! 3 refl)) $
-        assigns ! (bin ! (load ! (found-local ! (is-at 1) (stop !)) (look ! 2 refl)) (lit ! size-written) (record { fits = inside (t .i) less })) (found-local ! (is-at 3) (stop !)) (init ! 4 refl (tt, record { fits = inside (t .i) less })) $
-        assigns ! (addr ! (from ! (hop ! (look ! 8 refl) (fld ! {τ = tyArray τ n} {d = d} at (stop !))))) (found-local ! (is-at 4) (stop !)) (init ! 5 refl (tt, tt)) $
-        assigns ! (bin ! (load ! (found-local ! (is-at 4) (stop !)) (look ! 5 refl)) (load ! (found-local ! (is-at 3) (stop !)) (look ! 4 refl)) tt) (found-local ! (is-at 5) (stop !)) (init ! 6 refl (tt, tt)) $
-        assigns ! (of-opd ! (load ! (found-local ! (is-at 5) (hop ! (look ! 6 refl) (stop !))) (element-read F L n f d τ at h (field-of h) (value-of h) (holds-of h is) ! q′ b o (t .i) none less))) (found-local ! (is-at 6) (stop !)) (init ! 7 refl (typed y is-y)) $
-        use0 W (raw (emp 𝓤)) (id⊢ 𝓤 _) $
-        calls-from ! (fmOf 𝓤 H (W .laws) 𝓣) (raw (emp 𝓤)) (vbool (t .fit) ∷ field-val F L y ∷ vs) _ (met (t .fit) y is-y)
-        (and-then ! (load ! (found-local ! (is-at 0) (stop !)) (look ! 2 refl)) (and-then ! (load ! (found-local ! (is-at 6) (stop !)) (look ! 8 refl)) (at-entry _ 10 (reads _ ! 2 τs bs vs ok
-        (from-next (noLocal 𝓤 H) (tyBool, l₀) _ 1 τs bs (from-next (noLocal 𝓤 H) (refTy, l₁) _ 0 τs bs (from-first (noLocal 𝓤 H) τs bs behind-params))))))) (λ u.
-        use1 W (later (some (λ (r : Bool). ‵ (bool .own r (u ∷ [])) ⊛ raw (fact 𝓤 (r ≡ both (t .fit) (test y)))))) (id⊢ 𝓤 _) $ await ! tt $ pick ! (λ r. split ! $ facts ! bool (Is bool) (shows 𝓤 H A bool) r (u ∷ []) (λ is-r.
-        heard ! (r ≡ both (t .fit) (test y)) (λ fit-is.
-        land ! (found-local ! (is-at 0) (stop !)) (store ! 1 refl (bool-lawful 𝓤 H A W .typed r (u ∷ []) is-r .0)) $ rewrite ! 1 (λ (v : Val). ‵ (fat fullShare tyBool l₂ 0 v)) (ap only (bool-tells r (u ∷ []) is-r)) refl $
-        assigns-last ! (bin ! (load ! (found-local ! (is-at 1) (stop !)) (look ! 2 refl)) (lit ! tt) (record { fits = further (t .i) less })) (found-local ! (is-at 1) (stop !)) (store ! 2 refl (tt, record { fits = further (t .i) less })) $
+        rewrite ! 3 (λ (y : Bool). ‵ (fat fullShare tyBool l₄ 0 (vbool y))) yet refl $ stays ! (load ! (found-local ! (is-at 2) (stop !)) (look ! 3 refl)) $ forget ! 3 refl $
+        one 4 l₆ l₇ l₉ l₁₀ refl refl (t .fit) (t .i) less _ _ (λ first-fit first-is.
+        assigns ! (bin ! (load ! (found-local ! (is-at 1) (stop !)) (look ! 2 refl)) (lit ! tt) (record { fits = further (t .i) less })) (found-local ! (is-at 1) (stop !)) (store ! 2 refl (tt, record { fits = further (t .i) less })) $
         rewrite ! 2 (λ (j : ℕ). ‵ (fat fullShare word l₃ 0 (vint w64 j))) (one-more (t .i)) refl $
-        forget ! 3 refl $ forget ! 4 refl $ forget ! 5 refl $ forget ! 6 refl $ forget ! 7 refl $
-        again ! Nearer At t (goes-on test none (field-of h) t (subst (λ (k : ℕ). t .i < k) (sym number-is) less) r fit-is) (nearer t less)))))
+        move ! (0 ∷ 1 ∷ 2 ∷ 3 ∷ 4 ∷ 8 ∷ 9 ∷ 7 ∷ 5 ∷ 6 ∷ []) $ one 7 l₉ l₁₀ l₆ l₇ refl refl first-fit (suc (t .i)) second-less _ _ (λ second-fit second-is.
+        assigns-last ! (bin ! (load ! (found-local ! (is-at 1) (stop !)) (look ! 2 refl)) (lit ! tt) (record { fits = further (suc (t .i)) second-less })) (found-local ! (is-at 1) (stop !)) (store ! 2 refl (tt, record { fits = further (suc (t .i)) second-less })) $
+        rewrite ! 2 (λ (j : ℕ). ‵ (fat fullShare word l₃ 0 (vint w64 j))) (one-more (suc (t .i))) refl $ move ! (0 ∷ 1 ∷ 2 ∷ 3 ∷ 4 ∷ 8 ∷ 9 ∷ 7 ∷ 5 ∷ 6 ∷ []) $
+        again ! Nearer At t (goes-on test none (field-of h) t (subst (λ (k : ℕ). suc (t .i) < k) (sym number-is) second-less) first-fit second-fit first-is second-is) (nearer t second-less)))
       where
         less : t .i < n
         less = ltb-true (t .i) n yet
 
-        y : F .Value
-        y = getD (field-of h) (t .i) none
-
-        is-y : Is (F .row) (F .into y) (field-val F L y ∷ [])
-        is-y = is-element F L n (field-of h) _ (holds-of h is) (t .i) none less
+        second-less : suc (t .i) < n
+        second-less = both-below (t .i) (t .turns) n half (t .twice) even less
 
     -- the turn that leaves the loop, and the rest of the body
     leaves : (t : Turns) → ltb (t .i) n ≡ false → Sq W (At t) (runs (𝓣 .C) (𝓣 .Λ) En (turn-of n f τ τs #test) (anyQ (Turned t)))
@@ -254,11 +281,11 @@ module _ (F : Field) (L : LL.FLaws F) (n f d : ℕ) (τ : Ty) (at : fieldOf reco
     leaves t over =
         assigns ! (bin ! (load ! (found-local ! (is-at 1) (stop !)) (look ! 2 refl)) (lit ! n-written) tt) (found-local ! (is-at 2) (stop !)) (init ! 3 refl (tt, tt)) $
         rewrite ! 3 (λ (y : Bool). ‵ (fat fullShare tyBool l₄ 0 (vbool y))) over refl $ leaves-loop ! (load ! (found-local ! (is-at 2) (stop !)) (look ! 3 refl)) $ exec ! (𝓣 .C) (𝓣 .Λ) En (rest n f τ τs #test) (atRet En Post) $
-        assigns ! (of-opd ! (load ! (found-local ! (is-at 0) (stop !)) (look ! 1 refl))) (from ! (stop !)) (init ! 10 refl (tt, tt)) $
-        move ! (0 ∷ 11 ∷ []) $ shuts-panel ! tt q′ h b o is $
-        -- [the token; fit; i; the test's outcome; room at 4 to 7; the reference; the further parameters; _0 at 10; and that each local dies]
-        returns ! (look ! 10 refl) $ forget ! 1 refl $ forget ! 2 refl $ forget ! 3 refl $ forget ! 8 refl $ forget ! 10 refl $
-        move ! (10 ∷ 11 ∷ []) $ free1 ! $ move ! (8 ∷ 10 ∷ []) $ free1 ! $ move ! (8 ∷ []) $ free ! τs bs vs ok _ $ move ! (1 ∷ 8 ∷ []) $ free1 ! $ move ! (1 ∷ 7 ∷ []) $ free1 ! $ move ! (1 ∷ 6 ∷ []) $ free1 ! $ move ! (1 ∷ 5 ∷ []) $ free1 ! $
+        assigns ! (of-opd ! (load ! (found-local ! (is-at 0) (stop !)) (look ! 1 refl))) (from ! (stop !)) (init ! 12 refl (tt, tt)) $
+        move ! (0 ∷ 13 ∷ []) $ shuts-panel ! tt q′ h b o is $
+        -- [the token; fit; i; the loop's test; room at 4 to 9; the reference; the further parameters; _0 at 12; and that each local dies]
+        returns ! (look ! 12 refl) $ forget ! 1 refl $ forget ! 2 refl $ forget ! 3 refl $ forget ! 10 refl $ forget ! 12 refl $
+        move ! (12 ∷ 13 ∷ []) $ free1 ! $ move ! (10 ∷ 12 ∷ []) $ free1 ! $ move ! (10 ∷ []) $ free ! τs bs vs ok _ $ move ! (1 ∷ 10 ∷ []) $ free1 ! $ move ! (1 ∷ 9 ∷ []) $ free1 ! $ move ! (1 ∷ 8 ∷ []) $ free1 ! $ move ! (1 ∷ 7 ∷ []) $ free1 ! $ move ! (1 ∷ 6 ∷ []) $ free1 ! $ move ! (1 ∷ 5 ∷ []) $ free1 ! $
         move ! (1 ∷ 4 ∷ []) $ free1 ! $ move ! (1 ∷ 3 ∷ []) $ free1 ! $ move ! (1 ∷ 2 ∷ []) $ free1 ! $ free0 ! $
         by ! (ended-with t over)
 
@@ -274,9 +301,9 @@ module _ (F : Field) (L : LL.FLaws F) (n f d : ℕ) (τ : Ty) (at : fieldOf reco
   walk =
       qed W (Entry ps 𝓤 H A c κs qs x a γ ∷ []) ∵ split ! $ split ! $ split ! $ move ! (2 ∷ []) $ fsplit ! $ fsplit3 ! $ keep ! (2 ∷ 4 ∷ []) $
       enter ! (𝓣 .C) (𝓣 .Λ) (function n f τ τs #test) (vptr b o ∷ vs) Post $
-      alloc1 ! (λ l₀. alloc1 ! (λ l₁. allocate ! τs _ _ (λ bs. alloc1 ! (λ l₂. alloc1 ! (λ l₃. alloc1 ! (λ l₄. alloc1 ! (λ l₅. alloc1 ! (λ l₆. alloc1 ! (λ l₇. alloc1 ! (λ l₈. alloc0 ! $ params1 ! $ pass1 ! (init ! 15 refl (tt, tt)) $ move ! (14 ∷ []) $ fill ! τs bs vs ok _ $
-      -- [the further parameters; the element; …; the pointers; …; the offset; …; the test's outcome; …; i at 11; …; fit at 13; …; _1; …; _0; …; the shared borrow at 19; its token]
-      assigns ! (of-opd ! (true-lit !)) (found-local ! (past-is (noLocal 𝓤 H) τs bs _ 0) (stop !)) (init ! 13 refl (tt, tt)) $
-      assigns ! (of-opd ! (lit ! tt)) (found-local ! (past-is (noLocal 𝓤 H) τs bs _ 1) (stop !)) (init ! 11 refl (tt, record { fits = zero-fits })) $
-      move ! (19 ∷ 20 ∷ []) $ looks-panel ! tt h b o (λ q′ is.
-      keep ! (0 ∷ 16 ∷ 14 ∷ 12 ∷ 10 ∷ 8 ∷ 6 ∷ 4 ∷ 18 ∷ 3 ∷ 20 ∷ 1 ∷ 21 ∷ 19 ∷ 17 ∷ 15 ∷ 13 ∷ 11 ∷ 9 ∷ 7 ∷ 5 ∷ []) $ looped is q′ bs l₀ l₁ l₂ l₃ l₄ l₅ l₆ l₇ l₈)))))))))))
+      alloc1 ! (λ l₀. alloc1 ! (λ l₁. allocate ! τs _ _ (λ bs. alloc1 ! (λ l₂. alloc1 ! (λ l₃. alloc1 ! (λ l₄. alloc1 ! (λ l₅. alloc1 ! (λ l₆. alloc1 ! (λ l₇. alloc1 ! (λ l₈. alloc1 ! (λ l₉. alloc1 ! (λ l₁₀. alloc0 ! $ params1 ! $ pass1 ! (init ! 19 refl (tt, tt)) $ move ! (18 ∷ []) $ fill ! τs bs vs ok _ $
+      -- [the further parameters; two pointers; …; the element; …; two pointers; …; the offset; …; the loop's test; …; i at 15; …; fit at 17; …; _1; …; _0; …; the shared borrow at 23; its token]
+      assigns ! (of-opd ! (true-lit !)) (found-local ! (past-is (noLocal 𝓤 H) τs bs _ 0) (stop !)) (init ! 17 refl (tt, tt)) $
+      assigns ! (of-opd ! (lit ! tt)) (found-local ! (past-is (noLocal 𝓤 H) τs bs _ 1) (stop !)) (init ! 15 refl (tt, record { fits = zero-fits })) $
+      move ! (23 ∷ 24 ∷ []) $ looks-panel ! tt h b o (λ q′ is.
+      keep ! (0 ∷ 20 ∷ 18 ∷ 16 ∷ 14 ∷ 12 ∷ 10 ∷ 8 ∷ 6 ∷ 4 ∷ 22 ∷ 3 ∷ 24 ∷ 1 ∷ 25 ∷ 23 ∷ 21 ∷ 19 ∷ 17 ∷ 15 ∷ 13 ∷ 11 ∷ 9 ∷ 7 ∷ 5 ∷ []) $ looped is q′ bs l₀ l₁ l₂ l₃ l₄ l₅ l₆ l₇ l₈ l₉ l₁₀)))))))))))))

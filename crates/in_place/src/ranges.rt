@@ -15,6 +15,8 @@ fn are_readers_in_range(panel: &Record, m: u32, k: u32) -> bool
     while i < 16 {
         fit = reader_joined(fit, panel.readers[i], m, k);
         i += 1;
+        fit = reader_joined(fit, panel.readers[i], m, k);
+        i += 1;
     }
     fit
 }
@@ -25,6 +27,8 @@ fn are_stations_in_range(panel: &Record) -> bool
     let mut fit = true;
     let mut i = 0;
     while i < 32 {
+        fit = station_joined(fit, panel.stations[i]);
+        i += 1;
         fit = station_joined(fit, panel.stations[i]);
         i += 1;
     }

@@ -48,7 +48,7 @@ pub are-readers-in-range-spec : {M : Type 1} → statement M
 unfolding code.routine tablesOf readersInRange
 are-readers-in-range-spec 𝓤 H 𝓜 𝓖 𝓡 =
     looked ps 𝓤 H 𝓜 𝓖 𝓡 (self.clauses 𝓤 H (𝓖 .A) (𝓜 .mem) (𝓡 .run)) code.env #self code.function (code.unfolded 𝓤 H 𝓜 𝓡) (λ κs qs x a γ are.
-    walk Reader.the-field Reader′.the-field-laws 16 5 308 readerTy readers-found idleReader (λ panel. panel .readers) readers-hold (λ panel. refl) tt tt inside further ps #test
+    walk Reader.the-field Reader′.the-field-laws 16 5 308 readerTy readers-found idleReader (λ panel. panel .readers) readers-hold (λ panel. refl) tt tt inside further 8 refl ps #test
     𝓤 H (𝓖 .A) (givenOf 𝓤 H 𝓜 𝓖) (tablesOf 𝓤 H 𝓜 (tables 𝓤 H 𝓜 𝓡 code.env)) (self.clauses 𝓤 H (𝓖 .A) (𝓜 .mem) (𝓡 .run)) κs qs x a γ (well-typed κs 𝓤 H (𝓖 .A) (givenOf 𝓤 H 𝓜 𝓖) ps a are)
     (readerInRange (a .0) (a .1 .0)) (reader-typed 𝓤 H (𝓖 .A) (givenOf 𝓤 H 𝓜 𝓖))
     (λ fit y is-y. called 𝓤 H (𝓖 .A) (givenOf 𝓤 H 𝓜 𝓖) _ (fmOf 𝓤 H (givenOf 𝓤 H 𝓜 𝓖 .laws) (tablesOf 𝓤 H 𝓜 (tables 𝓤 H 𝓜 𝓡 code.env))) #test (bool ∷ Reader.the-row ∷ u32 ∷ u32 ∷ [])

@@ -47,7 +47,7 @@ pub are-stations-in-range-spec : {M : Type 1} → statement M
 unfolding code.routine tablesOf stationsInRange
 are-stations-in-range-spec 𝓤 H 𝓜 𝓖 𝓡 =
     looked ps 𝓤 H 𝓜 𝓖 𝓡 (self.clauses 𝓤 H (𝓖 .A) (𝓜 .mem) (𝓡 .run)) code.env #self code.function (code.unfolded 𝓤 H 𝓜 𝓡) (λ κs qs x a γ are.
-    walk Station.the-field Station′.the-field-laws 32 6 628 stationTy stations-found unheardStation (λ panel. panel .stations) stations-hold (λ panel. refl) tt tt inside further ps #test
+    walk Station.the-field Station′.the-field-laws 32 6 628 stationTy stations-found unheardStation (λ panel. panel .stations) stations-hold (λ panel. refl) tt tt inside further 16 refl ps #test
     𝓤 H (𝓖 .A) (givenOf 𝓤 H 𝓜 𝓖) (tablesOf 𝓤 H 𝓜 (tables 𝓤 H 𝓜 𝓡 code.env)) (self.clauses 𝓤 H (𝓖 .A) (𝓜 .mem) (𝓡 .run)) κs qs x a γ (well-typed κs 𝓤 H (𝓖 .A) (givenOf 𝓤 H 𝓜 𝓖) ps a are)
     stationInRange (station-typed 𝓤 H (𝓖 .A) (givenOf 𝓤 H 𝓜 𝓖))
     (λ fit y is-y. called 𝓤 H (𝓖 .A) (givenOf 𝓤 H 𝓜 𝓖) _ (fmOf 𝓤 H (givenOf 𝓤 H 𝓜 𝓖 .laws) (tablesOf 𝓤 H 𝓜 (tables 𝓤 H 𝓜 𝓡 code.env))) #test (bool ∷ Station.the-row ∷ [])

@@ -10,7 +10,6 @@ use lib.ListN.{getD}
 use Rattle.refusal.specs.declared.Refusal.{Refusal}
 use Rattle.refusal.specs.Refusals.{numberOf}
 use Rattle.refusal.proofs.Laws.{rowOf, row-of-number, number-positive}
-use Rattle.record.specs.declared.Record.{Record}
 use Rattle.record.specs.declared.CommandAnswer.{CommandAnswer}
 use Rattle.record.specs.declared.CommandAnswer.the-variants.{Value, Unknown as CommandAnswer·Unknown}
 use Rattle.answers.specs.declared.Ending.{Ending as EndingEnum}

@@ -9,7 +9,6 @@ use denote.Array.{each, Array, arrayVal}
 use denote.Laws.{Is}
 use denote.RattleType.{RattleType}
 use denote.Shadow.{shadow}
-use denote.Steps.{only}
 use denote.Struct.Field.{Field}
 use denote.Struct.Laws.{FLaws}
 

@@ -11,7 +11,7 @@ use prog.Routine.{Env}
 use prog.Wp.{Heap, WpFn, Tables, Closed}
 use ghost.Atoms.{Atoms, sem}
 use contract.Lifetimes.{Lfts, Shares}
-use contract.Running.{Running, GhostRules, givenOf, tables, tablesOf}
+use contract.Running.{Running, GhostRules, tables, tablesOf}
 use types.Kit.{Given, Item, ‵, raw, _⊛_, mean, ⋆, _$_, _∵_, !, qed, move, use0, join, fjoin, show, frame, updating, now as at-once, done}
 use denote.RattleType.{Denots, flat, owns}
 use denote.Builtin.{RefOf, bool}

@@ -1,6 +1,6 @@
 -- The walk of every function `pub fn f(panel: &mut Record, slots: &[u64], ..) -> N { let fits = fits_at(panel, slots.len()); <access>; next.answer }`, where the access takes a part of the
 -- record out, calls a function over it and stores back the part of what that gives, `next`. One walk serves any access, any further numbers and any N.
-use mathlib.Core.Path.{_≡_, refl, sym, subst, _∙_}
+use mathlib.Core.Path.{_≡_, refl, sym, subst}
 use mathlib.Core.Bool.{Bool}
 use Prim.Native.Nat.{ℕ, suc, _+_}
 use mathlib.Core.List.{[], _∷_, _++_, List}
@@ -23,7 +23,7 @@ use contract.Running.{Running, GhostRules, givenOf, tables, tablesOf}
 use types.Kit.{Given, Item, ‵, raw, mean, nth, Post, runs, Seq, Go, _$_, _∵_, !, qed, by, move, keep, drop, split, rewrite, fsplit, fsplit3, fjoin, use0}
 use types.Part.{Part, whole, sub, look-in}
 use types.Run.{Opd, look, init, forget, stop, hop, fld, from, load, of-opd, addr, and-then, no-more, assigns, land, returns, enter, alloc1, alloc0, params1, pass1, free1, free0}
-use sound.WpLaws.{FmC, fmOf}
+use sound.WpLaws.{fmOf}
 use denote.RattleType.{RattleType, Denots}
 use denote.Enum.Laws as EL
 use denote.Exit.{yes}

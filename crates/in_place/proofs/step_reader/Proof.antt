@@ -31,7 +31,7 @@ use Rattle.in_place.proofs.Locals.{found}
 use Rattle.in_place.proofs.Outcome.{outcome-of}
 use Rattle.in_place.proofs.Panel.{stepped-reader}
 use Rattle.in_place.proofs.PartWalk.{Arguments, slots-val, slots-own, fitting, Wrapper, 𝓣-of}
-use Rattle.in_place.proofs.ReaderPart.{Handing, Rows, handed, handed-vals, left-by, calls-reader, reader-in-place}
+use Rattle.in_place.proofs.ReaderPart.{Handing, Rows, handed, left-by, calls-reader, reader-in-place}
 use Rattle.in_place.proofs.RecordFields.{recordTy, m-place, reach-place, m-read, reach-read, m-fits, reach-fits}
 use Rattle.in_place.proofs.Steps.{before, follows}
 use Rattle.in_place.proofs.step_reader as self

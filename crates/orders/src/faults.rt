@@ -18,6 +18,8 @@ pub(crate) enum Fault {
 
 // What a number in a line stands for.
 pub(crate) enum Argument {
+    // no number stands there
+    Nothing,
     M,
     K,
     Reader,

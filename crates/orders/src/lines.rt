@@ -6,9 +6,6 @@ use crate::faults::Fault;
 use crate::input::is_too_long;
 use crate::input::text_length;
 use crate::messages;
-use crate::panel_state::PanelState;
-use crate::panel_state::carry_out;
-use crate::panel_state::opened;
 use crate::reading::Order;
 use crate::reading::is_comment;
 use crate::reading::order_of;
@@ -16,6 +13,9 @@ use crate::showing::show;
 use answers::FreshAnswer;
 use fresh_panel::fresh;
 use history::Call;
+use panel_and_list::PanelState;
+use panel_and_list::carry_out;
+use panel_and_list::opened;
 
 pub(crate) struct Run {
     pub state: PanelState,

@@ -1,19 +1,15 @@
 // The orders program, for the inspector: carries out any list of calls from standard input, each by
-// `history::apply`, and prints what each answers.
-mod answer_kinds;
+// `history::apply` with the plain list beside it, and prints what each answers.
 mod answer_texts;
 mod call_lines;
 mod faults;
 mod hexadecimal;
 mod input;
-mod kept_list;
 mod lines;
 mod messages;
 mod numbers;
 mod output;
-mod panel_state;
 mod reading;
-mod rows_shown;
 mod showing;
 mod words;
 
@@ -21,7 +17,7 @@ use input::next_part;
 use input::read;
 use lines::Run;
 use lines::run_line;
-use panel_state::opened;
+use panel_and_list::opened;
 use record::parts::fresh_record;
 use text_buffer::output::flush;
 

@@ -49,6 +49,7 @@ fn fault_text(filled: usize, out: &mut [u8], fault: Fault) -> usize {
 
 fn argument_text(filled: usize, out: &mut [u8], argument: Argument) -> usize {
     match argument {
+        Argument::Nothing => filled,
         Argument::M => text(filled, out, b"m"),
         Argument::K => text(filled, out, b"k"),
         Argument::Reader => text(filled, out, b"reader"),

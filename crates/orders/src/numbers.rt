@@ -11,10 +11,16 @@ pub(crate) struct Cursor {
     pub fault: Fault,
 }
 
-// A number, and the cursor behind it.
-pub(crate) struct Taken {
-    pub value: u32,
+// The numbers of a line in their order, 0 where there is none, and the cursor behind them.
+pub(crate) struct Numbers {
+    pub values: [u32; 3],
     pub next: Cursor,
+}
+
+// A number, and the cursor behind it.
+struct Taken {
+    value: u32,
+    next: Cursor,
 }
 
 // The digits of a word. A value above 4294967295 says only that it is.
@@ -24,8 +30,33 @@ struct Digits {
     end: usize,
 }
 
-// The next word as a number. Behind a fault its value means nothing, and that fault stays.
-pub(crate) fn number(line: &[u8], from: Cursor, argument: Argument) -> Taken {
+// The next words as numbers, one for each argument. Behind a fault the values mean nothing.
+pub(crate) fn numbers(line: &[u8], from: Cursor, arguments: [Argument; 3]) -> Numbers {
+    let mut values = [0u32; 3];
+    let mut next = from;
+    for i in 0..3 {
+        let taken = number(line, next, arguments[i]);
+        values[i] = taken.value;
+        next = taken.next;
+    }
+    Numbers {
+        values: values,
+        next: next,
+    }
+}
+
+fn number(line: &[u8], from: Cursor, argument: Argument) -> Taken {
+    match argument {
+        Argument::Nothing => Taken {
+            value: 0,
+            next: from,
+        },
+        _ => number_at(line, from, argument),
+    }
+}
+
+// The next word as a number; a fault before it stays.
+fn number_at(line: &[u8], from: Cursor, argument: Argument) -> Taken {
     let before = from.fault;
     let at = skip_blanks(line, from.at);
     let digits = digits_at(line, at);

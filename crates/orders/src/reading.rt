@@ -1,10 +1,10 @@
-// What a line asks for.
+// What a line asks for: its words, then numbers or a frame.
 use crate::faults::Argument;
 use crate::faults::Fault;
 use crate::faults::earlier;
 use crate::hexadecimal::frame_at;
 use crate::numbers::Cursor;
-use crate::numbers::number;
+use crate::numbers::numbers;
 use crate::words::is_word;
 use crate::words::skip_blanks;
 use crate::words::word_end;
@@ -20,6 +20,23 @@ pub(crate) enum Order {
     Command(usize),
     Show,
     Unreadable(Fault),
+}
+
+// The words that a line may begin with.
+enum Form {
+    Panel,
+    StartLookup,
+    StartWalk,
+    StepReader,
+    StepWriter,
+    Put,
+    Change,
+    Remove,
+    Command,
+    Show,
+    Unknown,
+    // the second word is missing
+    Half,
 }
 
 // The first word begins with #.
@@ -44,47 +61,98 @@ pub(crate) fn order_of(line: &[u8], frame: &mut [u8]) -> Order {
 }
 
 fn order_at(line: &[u8], at: usize, frame: &mut [u8]) -> Order {
-    let next = behind_word(line, at);
-    if is_word(line, at, b"panel") {
-        return read_panel(line, next);
+    let form = form_at(line, at);
+    match form {
+        Form::Command => command_order(line, word_end(line, at), frame),
+        Form::Unknown => Order::Unreadable(Fault::UnknownWord),
+        Form::Half => Order::Unreadable(Fault::WordMissing),
+        _ => numbered_order(line, behind_words(line, at, form), form),
     }
+}
+
+fn form_at(line: &[u8], at: usize) -> Form {
     if is_word(line, at, b"start") {
-        return read_start(line, next.at);
+        return start_form(line, second_word(line, at));
     }
     if is_word(line, at, b"step") {
-        return read_step(line, next.at);
+        return step_form(line, second_word(line, at));
+    }
+    if is_word(line, at, b"panel") {
+        return Form::Panel;
     }
     if is_word(line, at, b"put") {
-        return read_put(line, next);
+        return Form::Put;
     }
     if is_word(line, at, b"change") {
-        return read_change(line, next);
+        return Form::Change;
     }
     if is_word(line, at, b"remove") {
-        return read_removal(line, next);
+        return Form::Remove;
     }
     if is_word(line, at, b"command") {
-        return read_command(line, next.at, frame);
+        return Form::Command;
     }
     if is_word(line, at, b"show") {
-        return finished(line, next, Order::Show);
+        return Form::Show;
     }
-    Order::Unreadable(Fault::UnknownWord)
+    Form::Unknown
 }
 
-fn behind_word(line: &[u8], at: usize) -> Cursor {
-    Cursor {
-        at: word_end(line, at),
+fn second_word(line: &[u8], at: usize) -> usize {
+    skip_blanks(line, word_end(line, at))
+}
+
+fn start_form(line: &[u8], at: usize) -> Form {
+    if is_word(line, at, b"lookup") {
+        return Form::StartLookup;
+    }
+    if is_word(line, at, b"walk") {
+        return Form::StartWalk;
+    }
+    no_form(line, at)
+}
+
+fn step_form(line: &[u8], at: usize) -> Form {
+    if is_word(line, at, b"reader") {
+        return Form::StepReader;
+    }
+    if is_word(line, at, b"writer") {
+        return Form::StepWriter;
+    }
+    no_form(line, at)
+}
+
+// The second word is missing, or none that may stand there.
+fn no_form(line: &[u8], at: usize) -> Form {
+    if at < line.len() {
+        return Form::Unknown;
+    }
+    Form::Half
+}
+
+// The first byte behind the one word of a form, or behind its two.
+fn behind_words(line: &[u8], at: usize, form: Form) -> usize {
+    match form {
+        Form::StartLookup => word_end(line, second_word(line, at)),
+        Form::StartWalk => word_end(line, second_word(line, at)),
+        Form::StepReader => word_end(line, second_word(line, at)),
+        Form::StepWriter => word_end(line, second_word(line, at)),
+        _ => word_end(line, at),
+    }
+}
+
+// The order with its numbers, unless there is a fault or the line has more words.
+fn numbered_order(line: &[u8], from: usize, form: Form) -> Order {
+    let behind = Cursor {
+        at: from,
         fault: Fault::Nothing,
-    }
-}
-
-// The order, unless there was a fault or the line has more words.
-fn finished(line: &[u8], from: Cursor, order: Order) -> Order {
-    let before = from.fault;
-    let fault = earlier(before, fault_behind(line, from.at));
+    };
+    let read = numbers(line, behind, arguments(form));
+    let next = read.next;
+    let before = next.fault;
+    let fault = earlier(before, fault_behind(line, next.at));
     match fault {
-        Fault::Nothing => order,
+        Fault::Nothing => order_with(form, read.values),
         _ => Order::Unreadable(fault),
     }
 }
@@ -96,104 +164,46 @@ fn fault_behind(line: &[u8], from: usize) -> Fault {
     Fault::Nothing
 }
 
-// The word there is missing, or none that may stand there.
-fn word_fault(line: &[u8], at: usize) -> Fault {
-    if at < line.len() {
-        return Fault::UnknownWord;
+// The numbers that follow the words.
+fn arguments(form: Form) -> [Argument; 3] {
+    match form {
+        Form::Panel => [Argument::M, Argument::K, Argument::Nothing],
+        Form::StartLookup => [Argument::Reader, Argument::Point, Argument::Nothing],
+        Form::StartWalk => [Argument::Reader, Argument::Nothing, Argument::Nothing],
+        Form::StepReader => [Argument::Reader, Argument::Nothing, Argument::Nothing],
+        Form::Put => [Argument::Point, Argument::Value, Argument::Nothing],
+        Form::Change => [Argument::Point, Argument::Keep, Argument::Flip],
+        Form::Remove => [Argument::Point, Argument::Nothing, Argument::Nothing],
+        _ => [Argument::Nothing, Argument::Nothing, Argument::Nothing],
     }
-    Fault::WordMissing
 }
 
-fn read_panel(line: &[u8], from: Cursor) -> Order {
-    let m = number(line, from, Argument::M);
-    let k = number(line, m.next, Argument::K);
-    let order = Order::Panel {
-        m: m.value,
-        k: k.value,
-    };
-    finished(line, k.next, order)
-}
-
-fn read_start(line: &[u8], from: usize) -> Order {
-    let at = skip_blanks(line, from);
-    let next = behind_word(line, at);
-    if is_word(line, at, b"lookup") {
-        return read_lookup(line, next);
+fn order_with(form: Form, n: [u32; 3]) -> Order {
+    match form {
+        Form::Panel => Order::Panel { m: n[0], k: n[1] },
+        Form::StartLookup => Order::Call(Call::StartLookup {
+            reader: n[0],
+            point: n[1],
+        }),
+        Form::StartWalk => Order::Call(Call::StartWalk { reader: n[0] }),
+        Form::StepReader => Order::Call(Call::StepReader { reader: n[0] }),
+        Form::StepWriter => Order::Call(Call::StepWriter),
+        Form::Put => Order::Call(Call::StartPut {
+            point: n[0],
+            value: n[1],
+        }),
+        Form::Change => Order::Call(Call::StartChange {
+            point: n[0],
+            keep: n[1],
+            flip: n[2],
+        }),
+        Form::Remove => Order::Call(Call::StartRemoval { point: n[0] }),
+        _ => Order::Show,
     }
-    if is_word(line, at, b"walk") {
-        return read_walk(line, next);
-    }
-    Order::Unreadable(word_fault(line, at))
-}
-
-fn read_step(line: &[u8], from: usize) -> Order {
-    let at = skip_blanks(line, from);
-    let next = behind_word(line, at);
-    if is_word(line, at, b"reader") {
-        return read_reader_step(line, next);
-    }
-    if is_word(line, at, b"writer") {
-        return finished(line, next, Order::Call(Call::StepWriter));
-    }
-    Order::Unreadable(word_fault(line, at))
-}
-
-fn read_lookup(line: &[u8], from: Cursor) -> Order {
-    let reader = number(line, from, Argument::Reader);
-    let point = number(line, reader.next, Argument::Point);
-    let call = Call::StartLookup {
-        reader: reader.value,
-        point: point.value,
-    };
-    finished(line, point.next, Order::Call(call))
-}
-
-fn read_walk(line: &[u8], from: Cursor) -> Order {
-    let reader = number(line, from, Argument::Reader);
-    let call = Call::StartWalk {
-        reader: reader.value,
-    };
-    finished(line, reader.next, Order::Call(call))
-}
-
-fn read_reader_step(line: &[u8], from: Cursor) -> Order {
-    let reader = number(line, from, Argument::Reader);
-    let call = Call::StepReader {
-        reader: reader.value,
-    };
-    finished(line, reader.next, Order::Call(call))
-}
-
-fn read_put(line: &[u8], from: Cursor) -> Order {
-    let point = number(line, from, Argument::Point);
-    let value = number(line, point.next, Argument::Value);
-    let call = Call::StartPut {
-        point: point.value,
-        value: value.value,
-    };
-    finished(line, value.next, Order::Call(call))
-}
-
-fn read_change(line: &[u8], from: Cursor) -> Order {
-    let point = number(line, from, Argument::Point);
-    let keep = number(line, point.next, Argument::Keep);
-    let flip = number(line, keep.next, Argument::Flip);
-    let call = Call::StartChange {
-        point: point.value,
-        keep: keep.value,
-        flip: flip.value,
-    };
-    finished(line, flip.next, Order::Call(call))
-}
-
-fn read_removal(line: &[u8], from: Cursor) -> Order {
-    let point = number(line, from, Argument::Point);
-    let call = Call::StartRemoval { point: point.value };
-    finished(line, point.next, Order::Call(call))
 }
 
 // Everything behind the word is the frame.
-fn read_command(line: &[u8], from: usize, frame: &mut [u8]) -> Order {
+fn command_order(line: &[u8], from: usize, frame: &mut [u8]) -> Order {
     let read = frame_at(line, from, frame);
     let fault = read.fault;
     match fault {

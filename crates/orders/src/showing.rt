@@ -2,11 +2,9 @@
 use crate::answer_texts::reach_text;
 use crate::answer_texts::word_text;
 use crate::output::room;
-use crate::rows_shown::do_show;
-use crate::rows_shown::is_place;
-use crate::rows_shown::row_at;
-use crate::rows_shown::word_at;
 use conditions::both_hold;
+use panel_and_list::rows_shown::do_show;
+use panel_and_list::rows_shown::word_listed;
 use text_buffer::decimal;
 use text_buffer::line_end;
 use text_buffer::text;
@@ -28,7 +26,7 @@ pub(crate) fn show(
     verdict_line(reached, out, do_show(slots, words, places, rows))
 }
 
-// A line for each slot that is not empty or is some row's place, and one with the number of the others.
+// A line for each slot that holds a word or is some row's place, and one with the number of the others.
 fn slot_lines(
     filled: usize,
     out: &mut [u8],
@@ -42,8 +40,8 @@ fn slot_lines(
     let mut slot = 0;
     while slot < slots.len() {
         let word = slots[slot];
-        let is_empty = both_hold(word == 0, !is_place(places, rows, slot));
-        let row = row_word(words, places, rows, slot);
+        let row = word_listed(words, places, rows, slot);
+        let is_empty = both_hold(word == 0, row == 0);
         after = slot_line(after, out, is_empty, slot, word, row);
         empty = counted(empty, is_empty);
         slot += 1;
@@ -56,15 +54,6 @@ fn counted(count: u64, is_one_more: bool) -> u64 {
         return std::num::wrapping_add_u64(count, 1);
     }
     count
-}
-
-// The word of the row with that place; 0 if there is none.
-fn row_word(words: &[u64], places: &[u32], rows: usize, place: usize) -> u64 {
-    let row = row_at(places, rows, place);
-    if row < rows {
-        return word_at(words, row);
-    }
-    0
 }
 
 // Nothing for a slot that is 0 and no row's place.

@@ -12,13 +12,13 @@ pub(crate) struct Cursor {
 }
 
 // The numbers of a line in their order, 0 where there is none, and the cursor behind them.
-pub(crate) struct Numbers {
+pub(crate) struct Taken {
     pub values: [u32; 3],
     pub next: Cursor,
 }
 
 // A number, and the cursor behind it.
-struct Taken {
+struct TakenNumber {
     value: u32,
     next: Cursor,
 }
@@ -31,7 +31,7 @@ struct Digits {
 }
 
 // The next words as numbers, one for each argument. Behind a fault the values mean nothing.
-pub(crate) fn numbers(line: &[u8], from: Cursor, arguments: [Argument; 3]) -> Numbers {
+pub(crate) fn numbers(line: &[u8], from: Cursor, arguments: [Argument; 3]) -> Taken {
     let mut values = [0u32; 3];
     let mut next = from;
     for i in 0..3 {
@@ -39,15 +39,15 @@ pub(crate) fn numbers(line: &[u8], from: Cursor, arguments: [Argument; 3]) -> Nu
         values[i] = taken.value;
         next = taken.next;
     }
-    Numbers {
+    Taken {
         values: values,
         next: next,
     }
 }
 
-fn number(line: &[u8], from: Cursor, argument: Argument) -> Taken {
+fn number(line: &[u8], from: Cursor, argument: Argument) -> TakenNumber {
     match argument {
-        Argument::Nothing => Taken {
+        Argument::Nothing => TakenNumber {
             value: 0,
             next: from,
         },
@@ -56,12 +56,12 @@ fn number(line: &[u8], from: Cursor, argument: Argument) -> Taken {
 }
 
 // The next word as a number; a fault before it stays.
-fn number_at(line: &[u8], from: Cursor, argument: Argument) -> Taken {
+fn number_at(line: &[u8], from: Cursor, argument: Argument) -> TakenNumber {
     let before = from.fault;
     let at = skip_blanks(line, from.at);
     let digits = digits_at(line, at);
     let found = fault_of(line.len() <= at, digits, argument);
-    Taken {
+    TakenNumber {
         value: (digits.value % 4294967296) as u32,
         next: Cursor {
             at: digits.end,

@@ -16,12 +16,12 @@ test:
 bench:
 	rt staticlib frame
 	rt check step_speed bench
-	host/bench
+	host/speed/run
 
 fuzz:
 	rt staticlib frame
 	rt check bench orders
-	host/fuzz
+	host/fuzz/run
 
 check-times:
 	host/check_times

@@ -2,34 +2,56 @@
 //! operations against the direct table and the plain list, and the calls of writer, readers and
 //! stations in any order against the plain list. A failed test ends the program.
 
+#[path = "../../bench/bench_commands.rs"]
 mod bench_commands;
+#[path = "../../bench/bench_histories.rs"]
 mod bench_histories;
+#[path = "../direct_table.rs"]
 mod direct_table;
+#[path = "../drawn_commands.rs"]
 mod drawn_commands;
+#[path = "../plain_feeding.rs"]
 mod plain_feeding;
+#[path = "../plain_list.rs"]
 mod plain_list;
+#[path = "../point_table.rs"]
 mod point_table;
+#[path = "../reference_command.rs"]
 mod reference_command;
+#[path = "../reference_frame.rs"]
 mod reference_frame;
+#[path = "../reference_operations.rs"]
 mod reference_operations;
+#[path = "../reference_record.rs"]
 mod reference_record;
+#[path = "../reference_writer.rs"]
 mod reference_writer;
+#[path = "../step_table.rs"]
 mod step_table;
+#[path = "../test_commands.rs"]
 mod test_commands;
+#[path = "../test_entry.rs"]
 mod test_entry;
+#[path = "../test_histories.rs"]
 mod test_histories;
+#[path = "../test_orders.rs"]
 mod test_orders;
+#[path = "../test_steps.rs"]
 mod test_steps;
+#[path = "../test_walks.rs"]
 mod test_walks;
 
 // Commands are not read from text here.
 #[allow(dead_code)]
+#[path = "../../bench/bench_line.rs"]
 mod bench_line;
 // Not every function is used.
 #[allow(dead_code)]
+#[path = "../../common/random.rs"]
 mod random;
 // Disabled points are tested elsewhere.
 #[allow(dead_code)]
+#[path = "../reference_table.rs"]
 mod reference_table;
 
 use plain_feeding::Answer;

@@ -1,25 +1,40 @@
 //! The references as C functions, for the fuzz targets. They are compiled with coverage counters:
 //! the proved library and programs have none, so the branches of the references guide the fuzzer.
 
+#[path = "../bench/bench_line.rs"]
 mod bench_line;
+#[path = "../bench/bench_protocol.rs"]
 mod bench_protocol;
+#[path = "../reference/direct_table.rs"]
 mod direct_table;
+#[path = "../orders/orders_line.rs"]
 mod orders_line;
+#[path = "../orders/orders_protocol.rs"]
 mod orders_protocol;
+#[path = "../orders/orders_text.rs"]
 mod orders_text;
+#[path = "../reference/plain_feeding.rs"]
 mod plain_feeding;
+#[path = "../reference/point_table.rs"]
 mod point_table;
+#[path = "../reference/reference_calls.rs"]
 mod reference_calls;
+#[path = "../reference/reference_command.rs"]
 mod reference_command;
+#[path = "../reference/reference_frame.rs"]
 mod reference_frame;
+#[path = "../reference/reference_record.rs"]
 mod reference_record;
+#[path = "../reference/reference_writer.rs"]
 mod reference_writer;
 
 // The list's lookups are not printed.
 #[allow(dead_code)]
+#[path = "../reference/plain_list.rs"]
 mod plain_list;
 // The disabled points are no calls of a list.
 #[allow(dead_code)]
+#[path = "../reference/reference_table.rs"]
 mod reference_table;
 
 use direct_table::DirectTable;

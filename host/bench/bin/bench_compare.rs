@@ -2,27 +2,43 @@
 //! outputs for fixed and pseudorandom inputs. Exit status 1 on any difference, if the program
 //! cannot be run, and if a case that must occur in the histories never did.
 
+#[path = "../bench_cases.rs"]
 mod bench_cases;
+#[path = "../bench_commands.rs"]
 mod bench_commands;
+#[path = "../bench_edges.rs"]
 mod bench_edges;
+#[path = "../bench_garbage.rs"]
 mod bench_garbage;
+#[path = "../bench_histories.rs"]
 mod bench_histories;
+#[path = "../bench_line.rs"]
 mod bench_line;
+#[path = "../bench_protocol.rs"]
 mod bench_protocol;
+#[path = "../bench_workload.rs"]
 mod bench_workload;
+#[path = "../../common/child_program.rs"]
 mod child_program;
+#[path = "../../common/comparison.rs"]
 mod comparison;
+#[path = "../../reference/direct_table.rs"]
 mod direct_table;
+#[path = "../../reference/point_table.rs"]
 mod point_table;
+#[path = "../../common/random.rs"]
 mod random;
 
 // The plain list's changes are no commands of the bench.
 #[allow(dead_code)]
+#[path = "../../reference/plain_list.rs"]
 mod plain_list;
 // Of these, only the hash functions, the words and the ranges are used.
 #[allow(dead_code)]
+#[path = "../../reference/reference_record.rs"]
 mod reference_record;
 #[allow(dead_code)]
+#[path = "../../reference/reference_table.rs"]
 mod reference_table;
 
 use bench_cases::{feed, Case};

@@ -1,11 +1,15 @@
 //! Benchmark of the library's frame reader and writer beside the reference: nanoseconds for each
 //! frame, best of several rounds. Exit status 1 only if the two disagree.
 
+#[path = "../../frame/frame_inputs.rs"]
 mod frame_inputs;
+#[path = "../../frame/library_frame.rs"]
 mod library_frame;
 // Not every function is used.
 #[allow(dead_code)]
+#[path = "../../common/random.rs"]
 mod random;
+#[path = "../../reference/reference_frame.rs"]
 mod reference_frame;
 
 use frame_inputs::{frame_bytes, valid_fields, KINDS};

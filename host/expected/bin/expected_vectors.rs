@@ -1,19 +1,33 @@
 //! What the program `vectors` has to print, worked out a second time from document 01: the
 //! stored output is compared with this.
 
+#[path = "../expected_commands.rs"]
 mod expected_commands;
+#[path = "../expected_disabled.rs"]
 mod expected_disabled;
+#[path = "../expected_frames.rs"]
 mod expected_frames;
+#[path = "../expected_fresh.rs"]
 mod expected_fresh;
+#[path = "../expected_operations.rs"]
 mod expected_operations;
+#[path = "../expected_ranges.rs"]
 mod expected_ranges;
+#[path = "../expected_readers.rs"]
 mod expected_readers;
+#[path = "../expected_unreached.rs"]
 mod expected_unreached;
+#[path = "../expected_writer_refusals.rs"]
 mod expected_writer_refusals;
+#[path = "../expected_writing.rs"]
 mod expected_writing;
+#[path = "../../reference/reference_frame.rs"]
 mod reference_frame;
+#[path = "../../reference/reference_record.rs"]
 mod reference_record;
+#[path = "../../reference/reference_table.rs"]
 mod reference_table;
+#[path = "../../reference/reference_writer.rs"]
 mod reference_writer;
 
 use reference_table::{position, z};

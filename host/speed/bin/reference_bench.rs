@@ -2,23 +2,33 @@
 //! chooses the table: `direct` (ordinary code), `steps` (the step machine), or `map` (the standard
 //! library's hash table, whose output has 0 for slot, index and reach).
 
+#[path = "../../bench/bench_line.rs"]
 mod bench_line;
+#[path = "../../bench/bench_protocol.rs"]
 mod bench_protocol;
+#[path = "../../reference/direct_table.rs"]
 mod direct_table;
+#[path = "../map_table.rs"]
 mod map_table;
+#[path = "../../reference/point_table.rs"]
 mod point_table;
 
 // Walks, changes, commands and disabled points are no part of the bench, and nobody asks here for the
 // steps made.
 #[allow(dead_code)]
+#[path = "../../reference/reference_operations.rs"]
 mod reference_operations;
 #[allow(dead_code)]
+#[path = "../../reference/reference_record.rs"]
 mod reference_record;
 #[allow(dead_code)]
+#[path = "../../reference/reference_table.rs"]
 mod reference_table;
 #[allow(dead_code)]
+#[path = "../../reference/reference_writer.rs"]
 mod reference_writer;
 #[allow(dead_code)]
+#[path = "../../reference/step_table.rs"]
 mod step_table;
 
 use direct_table::DirectTable;

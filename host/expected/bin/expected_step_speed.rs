@@ -3,12 +3,16 @@
 
 // Of the reference, only readers and writer are used.
 #[allow(dead_code)]
+#[path = "../../reference/reference_record.rs"]
 mod reference_record;
 #[allow(dead_code)]
+#[path = "../../reference/reference_table.rs"]
 mod reference_table;
 #[allow(dead_code)]
+#[path = "../../reference/reference_writer.rs"]
 mod reference_writer;
 
+#[path = "../step_workload.rs"]
 mod step_workload;
 
 use std::io::stdin;

@@ -3,7 +3,9 @@
 //! of several rounds, and, where there is `valgrind`, the instructions of a call. Exit status 1 if the
 //! two print different things or cannot be run.
 
+#[path = "../../common/child_program.rs"]
 mod child_program;
+#[path = "../timing.rs"]
 mod timing;
 
 use std::fs::read_to_string;

@@ -1,9 +1,13 @@
 //! Compares the library's frame reader and writer with the reference on fixed pseudorandom
 //! inputs. Exit status 1 on any difference, and if an answer that must occur never did.
 
+#[path = "../frame_inputs.rs"]
 mod frame_inputs;
+#[path = "../library_frame.rs"]
 mod library_frame;
+#[path = "../../common/random.rs"]
 mod random;
+#[path = "../../reference/reference_frame.rs"]
 mod reference_frame;
 
 use frame_inputs::{frame_bytes, valid_fields, KINDS};

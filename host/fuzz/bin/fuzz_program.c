@@ -2,8 +2,8 @@
  * Fuzz target of a program that reads standard input and prints: any bytes as its input. The
  * program must end normally with status 0 and print what its reference prints.
  *
- * Variables: FUZZ_PROGRAM the program, FUZZ_PRELOAD the library of host/fuzz_io.c, FUZZ_REFERENCE
- * the name of the reference, FUZZ_FAULT for the preloaded library.
+ * Variables: FUZZ_PROGRAM the program, FUZZ_PRELOAD the library of host/fuzz/fuzz_io.c,
+ * FUZZ_REFERENCE the name of the reference, FUZZ_FAULT for the preloaded library.
  */
 #define _GNU_SOURCE /* for memfd_create */
 
@@ -28,7 +28,7 @@ int LLVMFuzzerTestOneInput(const uint8_t *data, size_t size);
 size_t LLVMFuzzerMutate(uint8_t *data, size_t size, size_t room);
 size_t LLVMFuzzerCustomMutator(uint8_t *data, size_t size, size_t room, unsigned int seed);
 
-/* host/fuzz_reference.rs */
+/* host/fuzz/fuzz_reference.rs */
 typedef size_t reference_program(const uint8_t *input, size_t length, uint8_t *printed, size_t room);
 reference_program reference_bench;
 reference_program reference_orders;

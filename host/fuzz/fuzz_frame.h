@@ -28,7 +28,7 @@ int LLVMFuzzerTestOneInput(const uint8_t *data, size_t size);
 /* The map, then the fields by their bits. */
 enum { MAP, STATION, NUMBER, POINT, ACTION, VALUE, REFUSAL, NUMBERS };
 
-/* host/fuzz_reference.rs */
+/* host/fuzz/fuzz_reference.rs */
 uint32_t reference_frame_read(const uint8_t *bytes, size_t length, uint32_t numbers[NUMBERS]);
 uint32_t reference_frame_write(uint8_t *bytes, size_t length, uint32_t *written,
                                const uint32_t numbers[NUMBERS]);

@@ -2,28 +2,42 @@
 //! loads. Arguments: the proved program, the program `reference_bench`, and a folder for the inputs.
 //! Exit status 1 if a program cannot be run, or prints other answers than the proved one.
 
+#[path = "../../bench/bench_commands.rs"]
 mod bench_commands;
+#[path = "../../bench/bench_protocol.rs"]
 mod bench_protocol;
+#[path = "../../bench/bench_workload.rs"]
 mod bench_workload;
+#[path = "../speed_sides.rs"]
 mod speed_sides;
+#[path = "../speed_workload.rs"]
 mod speed_workload;
+#[path = "../../reference/step_table.rs"]
 mod step_table;
+#[path = "../timing.rs"]
 mod timing;
 
 // Of these, only what the bench's commands need is used.
 #[allow(dead_code)]
+#[path = "../../bench/bench_line.rs"]
 mod bench_line;
 #[allow(dead_code)]
+#[path = "../../reference/point_table.rs"]
 mod point_table;
 #[allow(dead_code)]
+#[path = "../../common/random.rs"]
 mod random;
 #[allow(dead_code)]
+#[path = "../../reference/reference_operations.rs"]
 mod reference_operations;
 #[allow(dead_code)]
+#[path = "../../reference/reference_record.rs"]
 mod reference_record;
 #[allow(dead_code)]
+#[path = "../../reference/reference_table.rs"]
 mod reference_table;
 #[allow(dead_code)]
+#[path = "../../reference/reference_writer.rs"]
 mod reference_writer;
 
 use point_table::PointTable;

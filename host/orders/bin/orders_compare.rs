@@ -2,29 +2,48 @@
 //! outputs for fixed and pseudorandom inputs. Exit status 1 on any difference, if the program
 //! cannot be run, and if a text that must occur in the outputs never did.
 
+#[path = "../../common/child_program.rs"]
 mod child_program;
+#[path = "../../common/comparison.rs"]
 mod comparison;
+#[path = "../../reference/drawn_commands.rs"]
 mod drawn_commands;
+#[path = "../orders_edges.rs"]
 mod orders_edges;
+#[path = "../orders_garbage.rs"]
 mod orders_garbage;
+#[path = "../orders_histories.rs"]
 mod orders_histories;
+#[path = "../orders_line.rs"]
 mod orders_line;
+#[path = "../orders_protocol.rs"]
 mod orders_protocol;
+#[path = "../orders_spelling.rs"]
 mod orders_spelling;
+#[path = "../orders_text.rs"]
 mod orders_text;
+#[path = "../../reference/plain_feeding.rs"]
 mod plain_feeding;
+#[path = "../../common/random.rs"]
 mod random;
+#[path = "../../reference/reference_calls.rs"]
 mod reference_calls;
+#[path = "../../reference/reference_command.rs"]
 mod reference_command;
+#[path = "../../reference/reference_frame.rs"]
 mod reference_frame;
+#[path = "../../reference/reference_record.rs"]
 mod reference_record;
+#[path = "../../reference/reference_writer.rs"]
 mod reference_writer;
 
 // The list's lookups are not printed.
 #[allow(dead_code)]
+#[path = "../../reference/plain_list.rs"]
 mod plain_list;
 // The disabled points are no calls of a list.
 #[allow(dead_code)]
+#[path = "../../reference/reference_table.rs"]
 mod reference_table;
 
 use comparison::Comparison;
@@ -36,8 +55,8 @@ const GARBAGE: usize = 1000;
 const HISTORIES: usize = 3000;
 
 /// The program's sample, and what it prints.
-const SAMPLE: &[u8] = include_bytes!("../crates/orders/stdin");
-const SAMPLE_PRINTED: &[u8] = include_bytes!("../crates/orders/stdout");
+const SAMPLE: &[u8] = include_bytes!("../../../crates/orders/stdin");
+const SAMPLE_PRINTED: &[u8] = include_bytes!("../../../crates/orders/stdout");
 
 /// Histories on larger panels, and how many walks at least must come to their end in each.
 const LARGER: [(Sizes, usize); 4] = [

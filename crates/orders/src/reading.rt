@@ -148,11 +148,12 @@ fn numbered_order(line: &[u8], from: usize, form: Form) -> Order {
         fault: Fault::Nothing,
     };
     let read = numbers(line, behind, arguments(form));
+    let values = read.values;
     let next = read.next;
     let before = next.fault;
     let fault = earlier(before, fault_behind(line, next.at));
     match fault {
-        Fault::Nothing => order_with(form, read.values),
+        Fault::Nothing => order_with(form, values),
         _ => Order::Unreadable(fault),
     }
 }

@@ -21,14 +21,11 @@ mul-word c = search needs
 shared-slice-read-word : tie.Need-shared-slice-read-word Inv-loop μ-loop
 shared-slice-read-word c = search needs
 
-is-place-requires : tie.Need-is-place-requires Inv-loop μ-loop
-is-place-requires c κs = search needs
+word-listed-requires : tie.Need-word-listed-requires Inv-loop μ-loop
+word-listed-requires c κs = search needs
 
 both-hold-requires : tie.Need-both-hold-requires Inv-loop μ-loop
 both-hold-requires c κs = search needs
-
-row-word-requires : tie.Need-row-word-requires Inv-loop μ-loop
-row-word-requires c κs = search needs
 
 slot-line-requires : tie.Need-slot-line-requires Inv-loop μ-loop
 slot-line-requires c κs = search needs
@@ -63,9 +60,8 @@ slot-lines-spec =
     loop-holds
     mul-word
     shared-slice-read-word
-    is-place-requires
+    word-listed-requires
     both-hold-requires
-    row-word-requires
     slot-line-requires
     counted-requires
     add-slot

@@ -45,9 +45,9 @@ loop-again c =
     let loop = c .before .before .before .before .loop in (
       search needs,
       c .later .ensures
-      ∙ ap₂ (λ (there word : ℕ). cond (eqb there (a .place)) word (loop .listed)) (c .before .before .place-at .ensures) (c .before .word-at .ensures)
-      ∙ ap (cond (eqb (getD (now (a .places)) (loop .row) 0) (a .place)) (getD (now (a .words)) (loop .row) 0)) (loop .inv .1)
-      ∙ listed-more (now (a .words)) (now (a .places)) (loop .row) (a .place),
+          ∙ ap₂ (λ (there word : ℕ). cond (eqb there (a .place)) word (loop .listed)) (c .before .before .place-at .ensures) (c .before .word-at .ensures)
+          ∙ ap (cond (eqb (getD (now (a .places)) (loop .row) 0) (a .place)) (getD (now (a .words)) (loop .row) 0)) (loop .inv .1)
+          ∙ listed-more (now (a .words)) (now (a .places)) (loop .row) (a .place),
     )
 
 returns : tie.Need-returns Inv-loop μ-loop

@@ -22,9 +22,12 @@ impl Panel {
         Panel { record, slots }
     }
 
+    /// The reach, the counts of indices 1 to k, and the slots.
     fn state(&self) -> String {
+        let reach = self.record.reach;
+        let counts = spaced(&self.record.counts[..self.record.k as usize]);
         let slots = spaced(&self.slots);
-        format!("{} slots{slots}", levels(&self.record))
+        format!(" reach {reach} counts{counts} slots{slots}")
     }
 
     /// Shows a record that the program altered, and not the writer.
@@ -51,34 +54,20 @@ impl Panel {
         self.begun(&format!("removal {point}"), started);
     }
 
-    /// A step, and its line without its end.
-    pub fn open_step(&mut self) -> String {
-        let answer = writer_answer(step_writer(&mut self.record, &mut self.slots));
-        format!("step:{answer}{}", self.state())
-    }
-
     pub fn step(&mut self) {
-        println!("{}", self.open_step());
-    }
-
-    pub fn is_idle(&self) -> bool {
-        self.record.writer == Writer::Idle
+        let answer = writer_answer(step_writer(&mut self.record, &mut self.slots));
+        println!("step:{answer}{}", self.state());
     }
 
     /// The steps to the end of the work underway.
     pub fn finish(&mut self) {
-        while !self.is_idle() {
+        while self.record.writer != Writer::Idle {
             self.step();
         }
     }
 
     pub fn put(&mut self, point: u32, value: u32) {
         self.begin_put(point, value);
-        self.finish();
-    }
-
-    pub fn change(&mut self, point: u32, keep: u32, flip: u32) {
-        self.begin_change(point, keep, flip);
         self.finish();
     }
 
@@ -93,12 +82,6 @@ fn spaced<T: ToString>(numbers: &[T]) -> String {
         .iter()
         .map(|number| " ".to_string() + &number.to_string());
     each.collect()
-}
-
-/// The reach and the counts of indices 1 to k.
-pub fn levels(record: &Record) -> String {
-    let counts = spaced(&record.counts[..record.k as usize]);
-    format!(" reach {} counts{counts}", record.reach)
 }
 
 fn writer_answer(answer: Result<WriterStep, Refusal>) -> String {

@@ -1,18 +1,16 @@
-//! Lookups and walks over hand-made slots, and the refusals in their order.
+//! Lookups and walks over slots that no history leads to, and refusal 1 before the others.
 
 use crate::reference_record::Record;
 use crate::reference_table::{start_lookup, start_walk, step_reader, word_of, Refusal, Step};
 use crate::refused;
 
 pub fn run() {
-    lookups();
-    reach_while_underway();
-    walk(panel_of(3), &stored(), 9);
-    side_by_side();
+    below_the_reach();
     refusal_order();
-    holes();
     nobodys_points();
-    walk(Record::fresh(1, 1), &[u64::MAX], 2);
+    let mut panel = Record::fresh(1, 1);
+    let begun = begin_walk(&mut panel, &[u64::MAX], 7);
+    println!("{begun}{}", steps(&mut panel, &[u64::MAX], 7, 2));
 }
 
 fn panel_of(reach: u32) -> Record {
@@ -42,7 +40,7 @@ fn step(panel: &mut Record, slots: &[u64], reader: u32) -> String {
     match step_reader(panel, slots, reader) {
         Ok(Step::Underway) => " underway".to_string(),
         Ok(Step::Found(value)) => format!(" found {value}"),
-        Ok(Step::Unknown) => " unknown".to_string(),
+        Ok(Step::Unknown) => " ended".to_string() + &refused(7),
         Ok(Step::Word(word)) => format!(" word {word}"),
         Ok(Step::LastWord(word)) => format!(" last {word}"),
         Err(refusal) => refused(refusal as u32),
@@ -70,27 +68,12 @@ fn lookup(reach: u32, slots: &[u64], point: u32) {
     println!("{begun}{}", steps(&mut panel, slots, 0, 6));
 }
 
-fn lookups() {
+/// Points are stored above the reach, and none up to it.
+fn below_the_reach() {
     let slots = stored();
-    for (reach, point) in [
-        (3, 1),
-        (3, 9),
-        (3, 17),
-        (3, 25),
-        (4, 2_147_483_646),
-        (2, 17),
-        (0, 1),
-    ] {
+    for (reach, point) in [(2, 17), (0, 1), (4, 2_147_483_646)] {
         lookup(reach, &slots, point);
     }
-}
-
-fn holes() {
-    let mut slots = stored();
-    slots[0] = 0;
-    slots[2] = 0;
-    lookup(3, &slots, 1);
-    lookup(3, &slots, 17);
 }
 
 fn nobodys_points() {
@@ -102,62 +85,12 @@ fn nobodys_points() {
     lookup(4, &slots, 9);
 }
 
-/// The reach changes after the lookup has read it.
-fn reach_while_underway() {
-    let slots = stored();
-    for (reach, later) in [(3, 1), (1, 3)] {
-        let mut panel = panel_of(reach);
-        let begun = begin_lookup(&mut panel, &slots, 15, 17);
-        let first = step(&mut panel, &slots, 15);
-        panel.reach = later;
-        println!("{begun}{first}{}", steps(&mut panel, &slots, 15, 3));
-    }
-}
-
-fn walk(mut panel: Record, slots: &[u64], count: u32) {
-    let begun = begin_walk(&mut panel, slots, 7);
-    println!("{begun}{}", steps(&mut panel, slots, 7, count));
-}
-
-fn side_by_side() {
-    let slots = stored();
-    let mut panel = panel_of(3);
-    println!("{}", begin_lookup(&mut panel, &slots, 3, 17));
-    println!("{}", begin_walk(&mut panel, &slots, 5));
-    for _ in 0..5 {
-        let looking_up = step(&mut panel, &slots, 3);
-        let walking = step(&mut panel, &slots, 5);
-        println!("3:{looking_up} 5:{walking}");
-    }
-}
-
-/// Each call with the faults that are judged later too, and on a copy of the record.
+/// A record out of range, one in range, and a slot too few, each with the faults that are judged later.
 fn refusal_order() {
     let slots = stored();
-    let broken = panel_of(5);
-    let mut engaged = panel_of(3);
-    println!("{}", begin_walk(&mut engaged, &slots, 2));
-
-    let lookup = |mut panel: Record, slots, reader, point| {
-        println!("{}", begin_lookup(&mut panel, slots, reader, point));
-    };
-    lookup(broken, &slots, 16, 0);
-    lookup(engaged, &slots[..7], 16, 0);
-    lookup(engaged, &slots, 16, 0);
-    lookup(engaged, &slots, 2, 0);
-    lookup(engaged, &slots, 2, 2_147_483_647);
-    lookup(engaged, &slots, 2, 2_147_483_646);
-    lookup(engaged, &slots, 3, 2_147_483_646);
-
-    let walk = |mut panel: Record, reader| {
-        println!("{}", begin_walk(&mut panel, &slots, reader));
-    };
-    walk(broken, 16);
-    walk(engaged, 4_294_967_295);
-    walk(engaged, 2);
-
-    let step = |mut panel: Record, reader| step(&mut panel, &slots, reader);
-    let judged = [(broken, 16), (engaged, 16), (engaged, 3), (engaged, 2)];
-    let answers: String = judged.map(|(panel, reader)| step(panel, reader)).concat();
-    println!("step:{answers}");
+    for (reach, slots) in [(5, &slots[..]), (3, &slots[..]), (3, &[0; 7])] {
+        println!("{}", begin_lookup(&mut panel_of(reach), slots, 16, 0));
+        println!("{}", begin_walk(&mut panel_of(reach), slots, u32::MAX));
+        println!("step:{}", step(&mut panel_of(reach), slots, 16));
+    }
 }

@@ -1,43 +1,26 @@
-//! Refusals of the writer's starts and of its step, in their order.
+//! Refusal 1 of the writer's starts and of its step: a record out of range, and a slot too few, each
+//! with the faults that are judged later; the work underway goes on as if nothing had been asked.
 
 use crate::expected_operations::Panel;
 
 pub fn run() {
     let mut panel = Panel::fresh(8, 4);
-    panel.put(1, 5);
-    for point in [0, 2_147_483_647, 4_294_967_295, 2_147_483_646, 1] {
-        starts(&panel, point);
-    }
-    steps(&panel);
+    broken(&panel).step();
+    panel.clone().step();
     panel.begin_put(9, 6);
     panel.step();
-    order(&panel);
-    panel.begin_put(17, 7);
-    panel.begin_change(1, 0, 0);
-    panel.begin_removal(1);
+    starts(&broken(&panel));
+    starts(&panel);
+    let mut short = short_of_a_slot(&panel);
     panel.finish();
+    starts(&short);
+    short.step();
 }
 
-/// Each of the three starts on the same record.
-fn starts(panel: &Panel, point: u32) {
-    panel.clone().begin_put(point, 1);
-    panel.clone().begin_change(point, 2, 3);
-    panel.clone().begin_removal(point);
-}
-
-/// With the faults that are judged later too, one fault less each time.
-fn order(engaged: &Panel) {
-    starts(&broken(engaged), 0);
-    starts(&short_of_a_slot(engaged), 0);
-    for point in [0, 2_147_483_647, 2_147_483_646] {
-        starts(engaged, point);
-    }
-}
-
-fn steps(idle: &Panel) {
-    broken(idle).step();
-    short_of_a_slot(idle).step();
-    idle.clone().step();
+fn starts(panel: &Panel) {
+    panel.clone().begin_put(0, 1);
+    panel.clone().begin_change(0, 2, 3);
+    panel.clone().begin_removal(0);
 }
 
 /// With a reach above k.

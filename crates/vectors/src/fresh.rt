@@ -1,32 +1,34 @@
-// Fresh panels, and refused ones.
+// Fresh panels of which the number of slots lent or m is at fault: the slots stay as they were.
+use crate::operations::words;
 use crate::printing::line_end;
 use crate::printing::number;
 use crate::printing::refused;
 use crate::printing::text;
-use crate::printing::word;
 use answers::FreshAnswer;
 
 pub(crate) fn run() {
-    fresh(3, 4, 4);
-    fresh(4, 3, 4);
-    fresh(0, 0, 4);
-    fresh(4, 4, 0);
-    fresh(4, 4, 65);
-    fresh(2, 2, 64);
-    fresh(4, 4, 1);
-    large(4097, 4097);
-    large(4096, 4096);
+    three_slots();
+    four_slots();
+    large();
 }
 
-// With as many slots lent, at most 4.
-fn fresh(lent: usize, m: u32, k: u32) {
+fn three_slots() {
+    let mut slots = [7u64; 3];
+    fresh(&mut slots, 4, 4);
+}
+
+fn four_slots() {
     let mut slots = [7u64; 4];
-    if lent <= 4 {
-        fresh_in(&mut slots[..lent], m, k);
-    }
+    over(&mut slots);
 }
 
-fn fresh_in(slots: &mut [u64], m: u32, k: u32) {
+fn over(slots: &mut [u64]) {
+    fresh(slots, 3, 4);
+    fresh(slots, 5, 4);
+    fresh(slots, 4, 1);
+}
+
+fn fresh(slots: &mut [u64], m: u32, k: u32) {
     made(slots, m, k);
     text(b" slots");
     words(slots);
@@ -54,17 +56,9 @@ fn fresh_answer(answer: FreshAnswer) {
     }
 }
 
-pub(crate) fn words(slots: &[u64]) {
-    for i in 0..slots.len() {
-        word(slots[i]);
-    }
-}
-
-// The most slots, and one more.
-fn large(lent: usize, m: u32) {
+// One slot more than a panel may have.
+fn large() {
     let mut slots = [7u64; 4097];
-    if lent <= 4097 {
-        made(&mut slots[..lent], m, 64);
-        line_end();
-    }
+    made(&mut slots, 4097, 64);
+    line_end();
 }

@@ -1,6 +1,5 @@
 // The writer's operations by their steps: each line shows a call's answer, and the reach, the counts and
 // the slots that it leaves.
-use crate::fresh::words;
 use crate::printing::line_end;
 use crate::printing::number;
 use crate::printing::refused;
@@ -19,6 +18,12 @@ use writer::start_change;
 use writer::start_put;
 use writer::start_removal;
 use writer::step_writer;
+
+pub(crate) fn words(slots: &[u64]) {
+    for i in 0..slots.len() {
+        word(slots[i]);
+    }
+}
 
 // A fresh panel, whose making empties the slots.
 pub(crate) fn panel_over(slots: &mut [u64], m: u32, k: u32) -> Record {
@@ -39,16 +44,12 @@ fn counts(panel: Record) {
     }
 }
 
-// The reach and the counts of indices 1 to k.
-pub(crate) fn levels(panel: Record) {
+// The reach, the counts of indices 1 to k, and the slots.
+fn state(panel: Record, slots: &[u64]) {
     text(b" reach");
     number(panel.reach);
     text(b" counts");
     counts(panel);
-}
-
-fn state(panel: Record, slots: &[u64]) {
-    levels(panel);
     text(b" slots");
     words(slots);
 }
@@ -150,24 +151,18 @@ fn ended(r: Refusal) {
     refused(r);
 }
 
-// A step's line without its end.
-pub(crate) fn open_step(panel: Record, slots: &mut [u64]) -> Record {
+pub(crate) fn step(panel: Record, slots: &mut [u64]) -> Record {
     let stepped = step_writer(panel, slots);
     let answer = stepped.answer;
     let after = stepped.panel;
     text(b"step:");
     step_answer(answer);
     state(after, slots);
-    after
-}
-
-pub(crate) fn step(panel: Record, slots: &mut [u64]) -> Record {
-    let after = open_step(panel, slots);
     line_end();
     after
 }
 
-pub(crate) fn is_idle(panel: Record) -> bool {
+fn is_idle(panel: Record) -> bool {
     let writer = panel.writer;
     let work = writer.work;
     is_writer_idle(work)
@@ -187,11 +182,6 @@ pub(crate) fn finish(panel: Record, slots: &mut [u64]) -> Record {
 
 pub(crate) fn put(panel: Record, slots: &mut [u64], point: u32, value: u32) -> Record {
     let underway = begin_put(panel, slots, point, value);
-    finish(underway, slots)
-}
-
-pub(crate) fn change(panel: Record, slots: &mut [u64], point: u32, keep: u32, flip: u32) -> Record {
-    let underway = begin_change(panel, slots, point, keep, flip);
     finish(underway, slots)
 }
 

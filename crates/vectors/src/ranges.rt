@@ -1,5 +1,6 @@
 // A record with each of its fields in turn out of range, and at the end of its range.
 use crate::printing::line_end;
+use crate::printing::number;
 use crate::printing::text;
 use crate::readers::start_answer;
 use reader_starts::start_walk;
@@ -14,7 +15,6 @@ use record::Place;
 use record::Probe;
 use record::Put;
 use record::PutStage;
-use record::Reader;
 use record::ReaderWork;
 use record::Record;
 use record::Removal;
@@ -24,86 +24,186 @@ use record::Station;
 use record::Walk;
 use record::WriterWork;
 use record::parts::fresh_record;
+use record::parts::with_count;
+use record::parts::with_reach;
+use record::parts::with_station;
+use record::parts::with_work;
 use record::parts::with_writer;
 
+// A fresh record of 8 slots and 4 functions with one field altered, by numbers that the field has then.
+// What is not named is in range.
+enum Altered {
+    M(u32),
+    K(u32),
+    Reach(u32),
+    // index and count
+    Count(u32, u32),
+    // reader and point of a lookup that has not read the reach
+    Lookup(u32, u32),
+    // the reach that a lookup remembers, and its next index
+    Probe(u32, u32),
+    Walk(u32),
+    // point and index of a put in its second search
+    Put(u32, u32),
+    PutProbe(u32, u32),
+    PutFound(u32),
+    PutChosen(u32),
+    // point of a change that has not read the reach
+    Change(u32),
+    ChangeProbe(u32, u32),
+    ChangeFound(u32),
+    // station, number and action of a command underway
+    Command(u32, u32, u32),
+    // point of a removal about to lower the reach
+    Removal(u32),
+    RemovalProbe(u32, u32),
+    RemovalFound(u32),
+    // a station with the number, point and action of its last command
+    Station(u32, u32, u32, u32),
+}
+
+const ROWS: usize = 63;
+
+const CASES: [Altered; 63] = [
+    Altered::M(8),
+    Altered::M(0),
+    Altered::M(7),
+    Altered::M(9),
+    Altered::M(4294967295),
+    Altered::K(0),
+    Altered::K(1),
+    Altered::K(64),
+    Altered::K(65),
+    Altered::Reach(4),
+    Altered::Reach(5),
+    Altered::Count(1, 8),
+    Altered::Count(1, 9),
+    Altered::Count(4, 9),
+    Altered::Count(5, 9),
+    Altered::Count(64, 4294967295),
+    Altered::Lookup(0, 0),
+    Altered::Lookup(0, 1),
+    Altered::Lookup(14, 2147483646),
+    Altered::Lookup(14, 2147483647),
+    Altered::Probe(4, 4),
+    Altered::Probe(5, 1),
+    Altered::Probe(0, 0),
+    Altered::Probe(2, 0),
+    Altered::Probe(2, 3),
+    Altered::Walk(7),
+    Altered::Walk(8),
+    Altered::Put(0, 1),
+    Altered::Put(2147483646, 4),
+    Altered::Put(2147483647, 4),
+    Altered::Put(1, 0),
+    Altered::Put(1, 5),
+    Altered::PutProbe(4, 4),
+    Altered::PutProbe(5, 1),
+    Altered::PutFound(0),
+    Altered::PutFound(4),
+    Altered::PutFound(5),
+    Altered::PutChosen(0),
+    Altered::PutChosen(4),
+    Altered::PutChosen(5),
+    Altered::Change(0),
+    Altered::Change(1),
+    Altered::ChangeProbe(2, 3),
+    Altered::ChangeFound(4),
+    Altered::ChangeFound(5),
+    Altered::Command(32, 16777215, 2),
+    Altered::Command(0, 1, 0),
+    Altered::Command(33, 1, 0),
+    Altered::Command(1, 0, 0),
+    Altered::Command(1, 16777216, 0),
+    Altered::Command(1, 1, 3),
+    Altered::Removal(0),
+    Altered::Removal(1),
+    Altered::RemovalProbe(0, 1),
+    Altered::RemovalFound(0),
+    Altered::RemovalFound(1),
+    Altered::RemovalFound(5),
+    Altered::Station(1, 16777215, 1, 2),
+    Altered::Station(1, 16777216, 1, 2),
+    Altered::Station(32, 1, 0, 2),
+    Altered::Station(32, 1, 2147483647, 2),
+    Altered::Station(32, 1, 1, 3),
+    Altered::Station(32, 0, 0, 3),
+];
+
 pub(crate) fn run() {
-    sizes();
-    counts();
-    lookups();
-    walks();
-    puts();
-    changes();
-    commands();
-    removals();
-    stations();
+    for i in 0..ROWS {
+        judged(CASES[i]);
+    }
 }
 
 // What the start of reader 15's walk is answered, with 8 slots.
-fn judged(field: &[u8], panel: Record) {
+fn judged(altered: Altered) {
     let slots = [0u64; 8];
     text(b"range ");
-    text(field);
+    named(altered);
     text(b":");
-    let begun = start_walk(panel, &slots, 15);
+    let begun = start_walk(record_with(altered), &slots, 15);
     let answer = begun.answer;
     start_answer(answer);
     line_end();
 }
 
-fn panel() -> Record {
-    fresh_record(8, 4)
-}
-
-fn with_m(m: u32) -> Record {
-    fresh_record(m, 4)
-}
-
-fn with_k(k: u32) -> Record {
-    fresh_record(8, k)
-}
-
-fn with_reach(reach: u32) -> Record {
-    let mut changed = panel();
-    changed.reach = reach;
-    changed
-}
-
-fn sizes() {
-    judged(b"none", panel());
-    judged(b"m 0", with_m(0));
-    judged(b"m 7", with_m(7));
-    judged(b"m 9", with_m(9));
-    judged(b"m 4294967295", with_m(4294967295));
-    judged(b"k 0", with_k(0));
-    judged(b"k 1", with_k(1));
-    judged(b"k 64", with_k(64));
-    judged(b"k 65", with_k(65));
-    judged(b"reach 4", with_reach(4));
-    judged(b"reach 5", with_reach(5));
-}
-
-fn with_count(index: usize, count: u32) -> Record {
-    let mut changed = panel();
-    if index < 64 {
-        changed.counts[index] = count;
+fn named(altered: Altered) {
+    match altered {
+        Altered::M(m) => one(b"m", m),
+        Altered::K(k) => one(b"k", k),
+        Altered::Reach(reach) => one(b"reach", reach),
+        Altered::Count(index, count) => two(b"count", index, count),
+        Altered::Lookup(reader, point) => two(b"lookup", reader, point),
+        Altered::Probe(reach, next) => two(b"lookup probing", reach, next),
+        Altered::Walk(next) => one(b"walk", next),
+        Altered::Put(point, index) => two(b"put", point, index),
+        Altered::PutProbe(reach, next) => two(b"put probing", reach, next),
+        Altered::PutFound(index) => one(b"put found", index),
+        Altered::PutChosen(index) => one(b"put chosen", index),
+        Altered::Change(point) => one(b"change", point),
+        Altered::ChangeProbe(reach, next) => two(b"change probing", reach, next),
+        Altered::ChangeFound(index) => one(b"change found", index),
+        Altered::Command(station, count, action) => {
+            two(b"command", station, count);
+            number(action);
+        }
+        Altered::Removal(point) => one(b"removal", point),
+        Altered::RemovalProbe(reach, next) => two(b"removal probing", reach, next),
+        Altered::RemovalFound(index) => one(b"removal found", index),
+        Altered::Station(station, count, point, action) => {
+            two(b"station", station, count);
+            number(point);
+            number(action);
+        }
     }
-    changed
 }
 
-fn counts() {
-    judged(b"count 1 is 8", with_count(0, 8));
-    judged(b"count 1 is 9", with_count(0, 9));
-    judged(b"count 4 is 9", with_count(3, 9));
-    judged(b"count 5 is 9", with_count(4, 9));
-    judged(b"count 64 is 4294967295", with_count(63, 4294967295));
+fn one(name: &[u8], n: u32) {
+    text(name);
+    number(n);
 }
 
-fn with_work(reader: usize, work: ReaderWork) -> Record {
-    let mut changed = panel();
-    if reader < 16 {
-        changed.readers[reader] = Reader { work: work };
+fn two(name: &[u8], first: u32, second: u32) {
+    one(name, first);
+    number(second);
+}
+
+fn record_with(altered: Altered) -> Record {
+    let panel = fresh_record(8, 4);
+    match altered {
+        Altered::M(m) => fresh_record(m, 4),
+        Altered::K(k) => fresh_record(8, k),
+        Altered::Reach(reach) => with_reach(panel, reach),
+        Altered::Count(index, count) => with_count(panel, index, count),
+        Altered::Lookup(reader, point) => with_work(panel, reader, lookup(point, Search::Unread)),
+        Altered::Probe(reach, next) => with_work(panel, 0, lookup(1, probing(reach, next))),
+        Altered::Walk(next) => with_work(panel, 14, ReaderWork::Walking(Walk { next: next })),
+        Altered::Station(station, count, point, action) => {
+            with_station(panel, station, last(count, point, action))
+        }
+        _ => with_writer(panel, writer_work(altered)),
     }
-    changed
 }
 
 fn probing(reach: u32, next: u32) -> Search {
@@ -113,50 +213,49 @@ fn probing(reach: u32, next: u32) -> Search {
     })
 }
 
-fn looking_up(reader: usize, point: u32, search: Search) -> Record {
-    with_work(
-        reader,
-        ReaderWork::LookingUp(Lookup {
-            point: point,
-            search: search,
-        }),
-    )
+fn lookup(point: u32, search: Search) -> ReaderWork {
+    ReaderWork::LookingUp(Lookup {
+        point: point,
+        search: search,
+    })
 }
 
-fn lookups() {
-    judged(b"lookup of 0", looking_up(0, 0, Search::Unread));
-    judged(b"lookup of 1", looking_up(0, 1, Search::Unread));
-    judged(
-        b"lookup of 2147483646",
-        looking_up(14, 2147483646, Search::Unread),
-    );
-    judged(
-        b"lookup of 2147483647",
-        looking_up(14, 2147483647, Search::Unread),
-    );
-    judged(b"lookup by 4 at 4", looking_up(0, 1, probing(4, 4)));
-    judged(b"lookup by 5 at 1", looking_up(0, 1, probing(5, 1)));
-    judged(b"lookup by 0 at 0", looking_up(0, 1, probing(0, 0)));
-    judged(b"lookup by 2 at 0", looking_up(0, 1, probing(2, 0)));
-    judged(b"lookup by 2 at 3", looking_up(0, 1, probing(2, 3)));
+fn last(count: u32, point: u32, action: u32) -> Station {
+    Station {
+        number: count,
+        point: point,
+        action: action,
+        answer: CommandAnswer::Unknown,
+    }
 }
 
-fn walking(next: u32) -> Record {
-    with_work(14, ReaderWork::Walking(Walk { next: next }))
+fn writer_work(altered: Altered) -> WriterWork {
+    match altered {
+        Altered::Put(point, index) => put(point, PutStage::Scanning(index)),
+        Altered::PutProbe(reach, next) => put(1, PutStage::Searching(probing(reach, next))),
+        Altered::PutFound(index) => put(1, PutStage::Found(place(index))),
+        Altered::PutChosen(index) => put(1, PutStage::Chosen(index)),
+        Altered::Change(point) => change(point, masks(), Search::Unread),
+        Altered::ChangeProbe(reach, next) => change(1, masks(), probing(reach, next)),
+        Altered::ChangeFound(index) => changed(index),
+        Altered::Command(station, count, action) => {
+            change(1, command(station, count, action), Search::Unread)
+        }
+        Altered::Removal(point) => removal(point, RemovalStage::Lowering),
+        Altered::RemovalProbe(reach, next) => {
+            removal(1, RemovalStage::Searching(probing(reach, next)))
+        }
+        Altered::RemovalFound(index) => removal(1, RemovalStage::Found(place(index))),
+        _ => WriterWork::Idle,
+    }
 }
 
-fn walks() {
-    judged(b"walk at 7", walking(7));
-    judged(b"walk at 8", walking(8));
-}
-
-fn putting(point: u32, stage: PutStage) -> Record {
-    let put = Put {
+fn put(point: u32, stage: PutStage) -> WriterWork {
+    WriterWork::Putting(Put {
         point: point,
         value: 4294967295,
         stage: stage,
-    };
-    with_writer(panel(), WriterWork::Putting(put))
+    })
 }
 
 fn place(index: u32) -> Place {
@@ -166,43 +265,6 @@ fn place(index: u32) -> Place {
     }
 }
 
-fn puts() {
-    judged(b"put of 0", putting(0, PutStage::Scanning(1)));
-    judged(
-        b"put of 2147483646",
-        putting(2147483646, PutStage::Scanning(4)),
-    );
-    judged(
-        b"put of 2147483647",
-        putting(2147483647, PutStage::Scanning(4)),
-    );
-    judged(
-        b"put unread",
-        putting(1, PutStage::Searching(Search::Unread)),
-    );
-    judged(
-        b"put by 5 at 1",
-        putting(1, PutStage::Searching(probing(5, 1))),
-    );
-    judged(b"put scanning 0", putting(1, PutStage::Scanning(0)));
-    judged(b"put scanning 5", putting(1, PutStage::Scanning(5)));
-    judged(b"put found 0", putting(1, PutStage::Found(place(0))));
-    judged(b"put found 4", putting(1, PutStage::Found(place(4))));
-    judged(b"put found 5", putting(1, PutStage::Found(place(5))));
-    judged(b"put chosen 0", putting(1, PutStage::Chosen(0)));
-    judged(b"put chosen 4", putting(1, PutStage::Chosen(4)));
-    judged(b"put chosen 5", putting(1, PutStage::Chosen(5)));
-}
-
-fn changing(point: u32, alteration: Alteration, stage: ChangeStage) -> Record {
-    let change = Change {
-        point: point,
-        alteration: alteration,
-        stage: stage,
-    };
-    with_writer(panel(), WriterWork::Changing(change))
-}
-
 fn masks() -> Alteration {
     Alteration::Given(Masks {
         keep: 4294967295,
@@ -210,97 +272,33 @@ fn masks() -> Alteration {
     })
 }
 
-fn changes() {
-    judged(
-        b"change of 0",
-        changing(0, masks(), ChangeStage::Searching(Search::Unread)),
-    );
-    judged(
-        b"change unread",
-        changing(1, masks(), ChangeStage::Searching(Search::Unread)),
-    );
-    judged(
-        b"change by 2 at 3",
-        changing(1, masks(), ChangeStage::Searching(probing(2, 3))),
-    );
-    judged(
-        b"change found 4",
-        changing(1, masks(), ChangeStage::Found(place(4))),
-    );
-    judged(
-        b"change found 5",
-        changing(1, masks(), ChangeStage::Found(place(5))),
-    );
-}
-
-fn commanded(station: u32, number: u32, action: u32) -> Record {
-    let command = Command {
+fn command(station: u32, count: u32, action: u32) -> Alteration {
+    Alteration::Commanded(Command {
         station: station,
-        number: number,
+        number: count,
         action: action,
-    };
-    changing(
-        1,
-        Alteration::Commanded(command),
-        ChangeStage::Searching(Search::Unread),
-    )
+    })
 }
 
-fn commands() {
-    judged(b"command 32 16777215 2", commanded(32, 16777215, 2));
-    judged(b"command 0 1 0", commanded(0, 1, 0));
-    judged(b"command 33 1 0", commanded(33, 1, 0));
-    judged(b"command 1 0 0", commanded(1, 0, 0));
-    judged(b"command 1 16777216 0", commanded(1, 16777216, 0));
-    judged(b"command 1 1 3", commanded(1, 1, 3));
+fn change(point: u32, alteration: Alteration, search: Search) -> WriterWork {
+    WriterWork::Changing(Change {
+        point: point,
+        alteration: alteration,
+        stage: ChangeStage::Searching(search),
+    })
 }
 
-fn removing(point: u32, stage: RemovalStage) -> Record {
-    let removal = Removal {
+fn changed(index: u32) -> WriterWork {
+    WriterWork::Changing(Change {
+        point: 1,
+        alteration: masks(),
+        stage: ChangeStage::Found(place(index)),
+    })
+}
+
+fn removal(point: u32, stage: RemovalStage) -> WriterWork {
+    WriterWork::Removing(Removal {
         point: point,
         stage: stage,
-    };
-    with_writer(panel(), WriterWork::Removing(removal))
-}
-
-fn removals() {
-    judged(b"removal of 0", removing(0, RemovalStage::Lowering));
-    judged(b"removal lowering", removing(1, RemovalStage::Lowering));
-    judged(
-        b"removal by 0 at 1",
-        removing(1, RemovalStage::Searching(probing(0, 1))),
-    );
-    judged(
-        b"removal found 1",
-        removing(1, RemovalStage::Found(place(1))),
-    );
-    judged(
-        b"removal found 5",
-        removing(1, RemovalStage::Found(place(5))),
-    );
-}
-
-fn with_station(station: usize, number: u32, point: u32, action: u32) -> Record {
-    let mut changed = panel();
-    if station < 32 {
-        changed.stations[station] = Station {
-            number: number,
-            point: point,
-            action: action,
-            answer: CommandAnswer::Unknown,
-        };
-    }
-    changed
-}
-
-fn stations() {
-    judged(b"station 1 16777215 1 2", with_station(0, 16777215, 1, 2));
-    judged(b"station 1 16777216 1 2", with_station(0, 16777216, 1, 2));
-    judged(b"station 32 1 0 2", with_station(31, 1, 0, 2));
-    judged(
-        b"station 32 1 2147483647 2",
-        with_station(31, 1, 2147483647, 2),
-    );
-    judged(b"station 32 1 1 3", with_station(31, 1, 1, 3));
-    judged(b"station 32 0 0 3", with_station(31, 0, 0, 3));
+    })
 }

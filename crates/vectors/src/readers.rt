@@ -1,42 +1,40 @@
-// Lookups and walks over hand-made slots, one access a step, and the refusals in their order.
+// Lookups and walks over slots that no history leads to, and refusal 1 before the others.
 use crate::operations::step_answer;
 use crate::printing::line_end;
 use crate::printing::number;
 use crate::printing::refused;
 use crate::printing::text;
-use crate::printing::word;
-use answers::Ending;
 use answers::StartAnswer;
-use answers::StepAnswer;
-use answers::StepResult;
 use reader_starts::start_lookup;
 use reader_starts::start_walk;
 use reader_step::step_reader;
 use record::Record;
 use record::parts::fresh_record;
+use record::parts::with_reach;
 use slot_words::word::word_of;
 
 pub(crate) fn run() {
     let slots = stored();
     over(&slots);
-    holes();
+    short_of_a_slot();
     nobodys_points();
     one_slot();
 }
 
 fn over(slots: &[u64]) {
-    lookups(slots);
-    reach_while_underway(slots);
-    walks(slots);
-    side_by_side(slots);
-    refusal_order(slots);
+    below_the_reach(slots);
+    refusals(panel_of(5), slots);
+    refusals(panel_of(3), slots);
+}
+
+fn short_of_a_slot() {
+    let slots = [0u64; 7];
+    refusals(panel_of(3), &slots);
 }
 
 // A panel of 8 slots and 4 functions with this reach, everyone idle.
 fn panel_of(reach: u32) -> Record {
-    let mut panel = fresh_record(8, 4);
-    panel.reach = reach;
-    panel
+    with_reach(fresh_record(8, 4), reach)
 }
 
 // Points 1, 9 and 17 on their positions 1, 2 and 3.
@@ -55,42 +53,19 @@ pub(crate) fn start_answer(answer: StartAnswer) {
     }
 }
 
-// A lookup of an unknown point ends with a word of its own.
-fn reader_answer(answer: StepAnswer) {
-    if is_unknown(answer) {
-        text(b" unknown");
-    } else {
-        step_answer(answer);
-    }
-}
-
-fn is_unknown(answer: StepAnswer) -> bool {
-    let StepAnswer::Stepped(result) = answer else {
-        return false;
-    };
-    let StepResult::Ended(ending) = result else {
-        return false;
-    };
-    if let Ending::Unknown = ending {
-        true
-    } else {
-        false
-    }
-}
-
 fn step(panel: Record, slots: &[u64], reader: u32) -> Record {
     let stepped = step_reader(panel, slots, reader);
     let answer = stepped.answer;
-    reader_answer(answer);
+    step_answer(answer);
     stepped.panel
 }
 
-fn steps(panel: Record, slots: &[u64], reader: u32, count: u32) -> Record {
+fn steps(panel: Record, slots: &[u64], reader: u32, count: u32) {
     let mut now = panel;
     for _ in 0..count {
         now = step(now, slots, reader);
     }
-    now
+    line_end();
 }
 
 fn begin_lookup(panel: Record, slots: &[u64], reader: u32, point: u32) -> Record {
@@ -116,32 +91,14 @@ fn begin_walk(panel: Record, slots: &[u64], reader: u32) -> Record {
 
 // A lookup, with steps behind its end.
 fn lookup(panel: Record, slots: &[u64], point: u32) {
-    let begun = begin_lookup(panel, slots, 0, point);
-    steps(begun, slots, 0, 6);
-    line_end();
+    steps(begin_lookup(panel, slots, 0, point), slots, 0, 6);
 }
 
-fn lookups(slots: &[u64]) {
-    lookup(panel_of(3), slots, 1);
-    lookup(panel_of(3), slots, 9);
-    lookup(panel_of(3), slots, 17);
-    lookup(panel_of(3), slots, 25);
-    lookup(panel_of(4), slots, 2147483646);
+// Points are stored above the reach, and none up to it.
+fn below_the_reach(slots: &[u64]) {
     lookup(panel_of(2), slots, 17);
     lookup(panel_of(0), slots, 1);
-}
-
-// Points 1 and 9 are removed: the search for 17 goes on past the holes.
-fn holes() {
-    let mut slots = stored();
-    slots[0] = 0;
-    slots[2] = 0;
-    past_holes(&slots);
-}
-
-fn past_holes(slots: &[u64]) {
-    lookup(panel_of(3), slots, 1);
-    lookup(panel_of(3), slots, 17);
+    lookup(panel_of(4), slots, 2147483646);
 }
 
 // Words whose upper half is no valid point match no point.
@@ -158,23 +115,7 @@ fn no_match(slots: &[u64]) {
     lookup(panel_of(4), slots, 9);
 }
 
-// The lookup goes by the reach that it read.
-fn reach_while_underway(slots: &[u64]) {
-    let mut lowered = steps(begin_lookup(panel_of(3), slots, 15, 17), slots, 15, 1);
-    lowered.reach = 1;
-    steps(lowered, slots, 15, 3);
-    line_end();
-    let mut raised = steps(begin_lookup(panel_of(1), slots, 15, 17), slots, 15, 1);
-    raised.reach = 3;
-    steps(raised, slots, 15, 3);
-    line_end();
-}
-
-fn walks(slots: &[u64]) {
-    steps(begin_walk(panel_of(3), slots, 7), slots, 7, 9);
-    line_end();
-}
-
+// A walk over a slot that is all ones.
 fn one_slot() {
     let slots = [18446744073709551615u64; 1];
     only_step(&slots);
@@ -182,74 +123,14 @@ fn one_slot() {
 
 fn only_step(slots: &[u64]) {
     steps(begin_walk(fresh_record(1, 1), slots, 7), slots, 7, 2);
-    line_end();
 }
 
-// A lookup and a walk whose steps alternate.
-fn side_by_side(slots: &[u64]) {
-    let first = begin_lookup(panel_of(3), slots, 3, 17);
+// Each call with the faults that are judged behind refusal 1.
+fn refusals(panel: Record, slots: &[u64]) {
+    begin_lookup(panel, slots, 16, 0);
     line_end();
-    let panel = begin_walk(first, slots, 5);
+    begin_walk(panel, slots, 4294967295);
     line_end();
-    turns(panel, slots, 5);
-}
-
-fn turns(panel: Record, slots: &[u64], count: u32) {
-    let mut now = panel;
-    for _ in 0..count {
-        now = turn(now, slots);
-    }
-}
-
-fn turn(panel: Record, slots: &[u64]) -> Record {
-    text(b"3:");
-    let middle = step(panel, slots, 3);
-    text(b" 5:");
-    let after = step(middle, slots, 5);
-    line_end();
-    after
-}
-
-// Each call with the faults that document 01 judges later too, one fault less each time.
-fn refusal_order(slots: &[u64]) {
-    let panel = panel_of(3);
-    let broken = panel_of(5);
-    let engaged = begin_walk(panel, slots, 2);
-    line_end();
-    begin_lookup(broken, slots, 16, 0);
-    line_end();
-    short_of_a_slot(engaged, slots);
-    begin_lookup(engaged, slots, 16, 0);
-    line_end();
-    begin_lookup(engaged, slots, 2, 0);
-    line_end();
-    begin_lookup(engaged, slots, 2, 2147483647);
-    line_end();
-    begin_lookup(engaged, slots, 2, 2147483646);
-    line_end();
-    begin_lookup(engaged, slots, 3, 2147483646);
-    line_end();
-    begin_walk(broken, slots, 16);
-    line_end();
-    begin_walk(engaged, slots, 4294967295);
-    line_end();
-    begin_walk(engaged, slots, 2);
-    line_end();
-    refused_steps(broken, engaged, slots);
-}
-
-fn short_of_a_slot(panel: Record, slots: &[u64]) {
-    if 7 <= slots.len() {
-        begin_lookup(panel, &slots[..7], 16, 0);
-        line_end();
-    }
-}
-
-fn refused_steps(broken: Record, engaged: Record, slots: &[u64]) {
     text(b"step:");
-    step(broken, slots, 16);
-    step(engaged, slots, 16);
-    step(engaged, slots, 3);
-    step(engaged, slots, 2);
-    line_end();
+    steps(panel, slots, 16, 1);
 }

@@ -1,12 +1,8 @@
 //! What the program `vectors` has to print, worked out a second time from document 01: the
 //! stored output is compared with this.
 
-#[path = "../expected_commands.rs"]
-mod expected_commands;
 #[path = "../expected_disabled.rs"]
 mod expected_disabled;
-#[path = "../expected_frames.rs"]
-mod expected_frames;
 #[path = "../expected_fresh.rs"]
 mod expected_fresh;
 #[path = "../expected_operations.rs"]
@@ -19,10 +15,6 @@ mod expected_readers;
 mod expected_unreached;
 #[path = "../expected_writer_refusals.rs"]
 mod expected_writer_refusals;
-#[path = "../expected_writing.rs"]
-mod expected_writing;
-#[path = "../../reference/reference_frame.rs"]
-mod reference_frame;
 #[path = "../../reference/reference_record.rs"]
 mod reference_record;
 #[path = "../../reference/reference_table.rs"]
@@ -30,7 +22,7 @@ mod reference_table;
 #[path = "../../reference/reference_writer.rs"]
 mod reference_writer;
 
-use reference_table::{position, z};
+use reference_table::z;
 
 const WORDS: [&str; 14] = [
     "misfit", "address", "reader", "engaged", "idle", "no perch", "unknown", "length", "map",
@@ -42,37 +34,13 @@ fn refused(number: u32) -> String {
     format!(" ! {number} {}", WORDS[number as usize - 1])
 }
 
-fn generator() {
-    for n in [10000, 1, 2, 3, 4, 5, 6] {
-        println!("z {n} {}", z(n));
-    }
-}
-
-fn positions() {
-    for point in [1, 9, 17] {
-        let places: String = (1..5)
-            .map(|i| format!(" {}", position(8, point, i)))
-            .collect();
-        println!("positions {point}:{places}");
-    }
-}
-
-fn refusals() {
-    for (row, word) in WORDS.iter().enumerate() {
-        println!("refusal {} {word}", row + 1);
-    }
-}
-
 fn main() {
-    generator();
-    positions();
-    refusals();
-    expected_frames::run();
+    println!("z 10000 {}", z(10000));
+    println!("refusal 14 {}", WORDS[13]);
     expected_fresh::run();
     expected_readers::run();
     expected_ranges::run();
     expected_disabled::run();
-    expected_writing::run();
     expected_writer_refusals::run();
     expected_unreached::run();
 }

@@ -25,10 +25,13 @@ loop-less c = search needs
 loop-again : tie.Need-loop-again Inv-loop μ-loop
 loop-again c = search needs
 
+line-end-requires : tie.Need-line-end-requires Inv-loop μ-loop
+line-end-requires c κs = search needs
+
 returns : tie.Need-returns Inv-loop μ-loop
 returns c = search needs
 
 pub steps-spec : {M : Type 1} → statement M
 steps-spec =
     tie.close
-    (tie.spec Inv-loop μ-loop loop-holds step-requires add-counter loop-less loop-again returns)
+    (tie.spec Inv-loop μ-loop loop-holds step-requires add-counter loop-less loop-again line-end-requires returns)

@@ -1,9 +1,9 @@
--- `vectors::fresh::words` ends: it counts up to the number of slots.
+-- `vectors::operations::words` ends: it counts up to the number of slots.
 use Prim.Native.Nat.{_-_, _≤_}
 use borrow.Author.Needs.{needs}
 use lib.ListN.{length}
-use Rattle.vectors.proofs.fresh.words.Statement.{statement}
-use Rattle.vectors.proofs.fresh.words.Tie as tie
+use Rattle.vectors.proofs.operations.words.Statement.{statement}
+use Rattle.vectors.proofs.operations.words.Tie as tie
 
 abbrev Inv-loop : tie.InvT-loop
 Inv-loop slots i₀ i-end i = i ≤ length slots

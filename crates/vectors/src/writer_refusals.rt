@@ -18,6 +18,10 @@ pub(crate) fn run() {
 fn over(slots: &mut [u64]) -> Record {
     let idle = panel_over(slots, 8, 4);
     steps(idle, slots);
+    engaged_writer(idle, slots)
+}
+
+fn engaged_writer(idle: Record, slots: &mut [u64]) -> Record {
     let begun = begin_put(idle, slots, 9, 6);
     let engaged = step(begun, slots);
     all_starts(engaged, slots);

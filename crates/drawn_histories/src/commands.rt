@@ -1,5 +1,5 @@
 // A station's command chosen by drawn numbers: in turn, the last one again, altered or out of turn.
-use crate::calls::drawn_point;
+use crate::drawn_calls::drawn_point;
 use crate::numbers::Draws;
 use crate::numbers::upper;
 use command::Sent;

@@ -2,10 +2,10 @@
 // which a line shows after each hundred calls.
 use crate::Way;
 use crate::answer_digest::answer_folded;
-use crate::calls::drawn_call;
 use crate::commands::drawn_command;
 use crate::digest::Digest;
 use crate::digest::empty;
+use crate::drawn_calls::drawn_call;
 use crate::frames::drawn_length;
 use crate::frames::drawn_map;
 use crate::frames::frame_of;
@@ -15,8 +15,8 @@ use crate::printing;
 use crate::printing::Hundred;
 use crate::state_digest::state_folded;
 use answers::CallOutcome;
-use history::Call;
-use history::apply;
+use calls::Call;
+use calls::apply;
 use record::Record;
 use slot_words::taken::taken_slots;
 

@@ -1,9 +1,9 @@
 // Any call, carried out in place: the record is lent to the call of its kind.
 use answers::CallOutcome;
-use history::Call;
-use history::outcomes::entered;
-use history::outcomes::started;
-use history::outcomes::stepped;
+use calls::Call;
+use calls::outcomes::entered;
+use calls::outcomes::started;
+use calls::outcomes::stepped;
 use lent_record::start_change;
 use lent_record::start_command;
 use lent_record::start_lookup;

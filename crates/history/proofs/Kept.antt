@@ -14,7 +14,7 @@ use Rattle.record.specs.Idle.{isReaderIdle, isWriterIdle}
 use Rattle.answers.specs.Answers.{refused, Outcome, outcome, unlessRefused}
 use Rattle.plain_list.proofs.RowLaws.{steady-same}
 use Rattle.writer.proofs.WriterAgreement.{operationOf}
-use Rattle.history.specs.declared.Call.{Call}
+use Rattle.calls.specs.declared.Call.{Call}
 use Rattle.history.specs.Log.{Role, readerStart, readerStep, writerStart, writerStep, roleOf, writingAfter, readingAfter, endedBy, endedNow, logAfter, isIdle, isNothing}
 use Rattle.history.specs.World.{World, storesNow, endsNow, feedsNow, rowsNow, writerNow, witnessed, readerNow, noted}
 use Rattle.history.specs.Claim.{refusalDue, CarriedOut, AnsweredBy, Right}

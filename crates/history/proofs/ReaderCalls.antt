@@ -28,7 +28,7 @@ use Rattle.search.proofs.SearchLaws.{searchLeft}
 use Rattle.reader_step.specs.Reader.{readerAccess, ReaderEffect, readerAdvance, afterStep, readerRuns, workRefusal, stepRefusal, stepReader}
 use Rattle.reader_starts.specs.Starts.{lookupWorkRefusal, lookupRefusal, walkWorkRefusal, walkRefusal, startReader, startLookup, startWalk}
 use Rattle.reader_starts.proofs.ReaderLaws.{advances}
-use Rattle.history.specs.declared.Call.the-variants.{StartLookup, StartWalk, StepReader}
+use Rattle.calls.specs.declared.Call.the-variants.{StartLookup, StartWalk, StepReader}
 use Rattle.history.specs.Log.{Reading, idle, lookingUp, walking, readerStart, roleOf, writingAfter, readingAfter, endedNow, logAfter}
 use Rattle.history.specs.World.{ReaderNotes, noReaderNotes, World, storesNow, endsNow, feedsNow, rowsNow, writerNow, steppedReader, witnessed, readerNow, noted}
 use Rattle.history.specs.Claim.{refusalDue, ReaderRight}

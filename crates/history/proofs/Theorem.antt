@@ -2,9 +2,9 @@
 use Prim.Native.Nat.{ℕ}
 use mathlib.Core.Path.{sym, subst}
 use mathlib.Core.List.{List, [], _∷_}
-use Rattle.history.specs.declared.Call.{Call}
-use Rattle.history.specs.declared.Call.the-variants.{StartLookup, StartWalk, StepReader, StartPut, StartChange, StartRemoval, StartCommand, StepWriter}
-use Rattle.history.specs.Calls.{applied}
+use Rattle.calls.specs.declared.Call.{Call}
+use Rattle.calls.specs.declared.Call.the-variants.{StartLookup, StartWalk, StepReader, StartPut, StartChange, StartRemoval, StartCommand, StepWriter}
+use Rattle.calls.specs.Calls.{applied}
 use Rattle.history.specs.Log.{Request}
 use Rattle.history.specs.World.{World, outcomeOf, next, freshWorld}
 use Rattle.history.specs.Claim.{Right, Holds, ArgumentsFit, AllFit, Demand3}

@@ -38,7 +38,7 @@ use Rattle.writer.proofs.WriterAgreement.{operationOf}
 use Rattle.command.specs.declared.Sent.{Sent}
 use Rattle.command.specs.Command.{sentIn, frameRefusal, entryRefusal, commandedChange, changeStarts, numberEqual, numberOther, inTurn, startCommand}
 use Rattle.command.proofs.CommandLaws.{Valid, frame-valid, change-in-range}
-use Rattle.history.specs.declared.Call.the-variants.{StartPut, StartChange, StartRemoval, StartCommand}
+use Rattle.calls.specs.declared.Call.the-variants.{StartPut, StartChange, StartRemoval, StartCommand}
 use Rattle.history.specs.Log.{Writing, writing, writerStart, asChange, roleOf, Given, writingAfter, readingAfter, endedNow, logAfter}
 use Rattle.history.specs.World.{World, storesNow, endsNow, feedsNow, rowsNow, writerNow, readerNow, noted}
 use Rattle.history.specs.Claim.{operationRefusal, lastEnded, turnRefusal, refusalDue, CommandRight, stepBound}

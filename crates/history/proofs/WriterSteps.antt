@@ -32,7 +32,7 @@ use Rattle.writer.specs.Step.{writerAccess, writerAdvance, afterStep, writerRun
 use Rattle.writer.proofs.WriterLaws.{run-in-range, run-less}
 use Rattle.writer.proofs.WriterAgreement.{operationOf, operation-begun, writer-agrees}
 use Rattle.command.specs.declared.Sent.{Sent}
-use Rattle.history.specs.declared.Call.the-variants.{StepWriter}
+use Rattle.calls.specs.declared.Call.the-variants.{StepWriter}
 use Rattle.history.specs.Log.{Writing, writing, writerStep, roleOf, Given, Log, writingAfter, readingAfter, givenTo, endedBy, endedNow, logAfter}
 use Rattle.history.specs.World.{WriterNotes, noWriterNotes, World, storesNow, endsNow, feedsNow, toldNow, rowsNow, steppedWriter, writerStepped, writerNow, witnessed, readerNow, noted}
 use Rattle.history.specs.Claim.{refusalDue, stepBound, WriterRight, writer-underway, writer-ended}

@@ -15,8 +15,8 @@ use Rattle.answers.specs.Answers.{Ending, Answer, started, underway, ended, wal
 use Rattle.plain_list.specs.PlainList.{Rows, absent, present, entryOf, lookupRow, Operation, nothing, put, change, removal, Each, Some, Shows}
 use Rattle.command.specs.declared.Sent.{Sent}
 use Rattle.command.specs.Command.{sentIn, frameRefusal}
-use Rattle.history.specs.declared.Call.{Call}
-use Rattle.history.specs.declared.Call.the-variants.{StartLookup, StartWalk, StepReader, StartPut, StartChange, StartRemoval, StartCommand, StepWriter}
+use Rattle.calls.specs.declared.Call.{Call}
+use Rattle.calls.specs.declared.Call.the-variants.{StartLookup, StartWalk, StepReader, StartPut, StartChange, StartRemoval, StartCommand, StepWriter}
 use Rattle.history.specs.Log.{Request, Reading, lookingUp, walking, Given, Log, isIdle, isNothing, lastGiven}
 use Rattle.history.specs.World.{WriterNotes, ReaderNotes, World, steppedReader, writerStepped, outcomeOf, next, freshWorld}
 

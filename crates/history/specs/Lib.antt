@@ -1,4 +1,3 @@
-pub mod Calls
 pub mod Log
 pub mod World
 pub mod Claim

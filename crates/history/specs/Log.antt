@@ -10,8 +10,8 @@ use Rattle.plain_list.specs.PlainList.{Operation, nothing, put, change, removal
 use Rattle.change.specs.Change.{actionMasks}
 use Rattle.command.specs.declared.Sent.{Sent}
 use Rattle.command.specs.Command.{sentIn}
-use Rattle.history.specs.declared.Call.{Call}
-use Rattle.history.specs.declared.Call.the-variants.{StartLookup, StartWalk, StepReader, StartPut, StartChange, StartRemoval, StartCommand, StepWriter}
+use Rattle.calls.specs.declared.Call.{Call}
+use Rattle.calls.specs.declared.Call.the-variants.{StartLookup, StartWalk, StepReader, StartPut, StartChange, StartRemoval, StartCommand, StepWriter}
 
 -- a call, and the frame lent with it
 pub record Request : Type 0 where

@@ -14,7 +14,7 @@ use Rattle.plain_list.specs.PlainList.{Rows, Told, feed}
 use Rattle.effects.specs.Memory.{storesSlot}
 use Rattle.writer.specs.Step.{writerAccess}
 use Rattle.command.specs.declared.Sent.{Sent}
-use Rattle.history.specs.Calls.{applied}
+use Rattle.calls.specs.Calls.{applied}
 use Rattle.history.specs.Log.{Request, Role, readerStart, readerStep, writerStart, writerStep, roleOf, Log, logAfter, freshLog}
 
 -- what is noted of the writer's operation underway

@@ -25,7 +25,7 @@ use Rattle.writer.specs.Starts.{workStartRefusal, startRefusal, startWriter, st
 use Rattle.whole_operations.specs.Whole.{untilEnded, readerStep, writerStep, wholeLookup, wholePut, wholeRemoval}
 use Rattle.frame.specs.FieldMap.{hasBit, start, bigEndian, allowed}
 use Rattle.frame.specs.Frames.{fieldIn, judged, readRefusal, handed, readFrame}
-use Rattle.history.specs.Calls.{applied}
+use Rattle.calls.specs.Calls.{applied}
 use Rattle.marked_values.specs.Marked.{Agrees, runLine, run, answersOf, fresh, onlyPoint1, sample, answerTo, startsOf, markedValues}
 
 pub marked : Each Agrees markedValues

@@ -12,9 +12,9 @@ use Rattle.fresh_panel.specs.FreshPanel.{makeFresh}
 use Rattle.whole_operations.specs.Whole.{wholeLookup, wholePut, wholeRemoval}
 use Rattle.frame.specs.declared.Reading.{Reading}
 use Rattle.frame.specs.Frames.{readFrame}
-use Rattle.history.specs.declared.Call.{Call}
-use Rattle.history.specs.declared.Call.the-variants.{StartLookup, StartPut, StartChange, StartRemoval}
-use Rattle.history.specs.Calls.{applied}
+use Rattle.calls.specs.declared.Call.{Call}
+use Rattle.calls.specs.declared.Call.the-variants.{StartLookup, StartPut, StartChange, StartRemoval}
+use Rattle.calls.specs.Calls.{applied}
 
 -- a row of the table: what the definitions give, and what document 01 says
 pub data MarkedRow : Type 0 where

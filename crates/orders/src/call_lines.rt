@@ -5,7 +5,7 @@ use crate::output::number;
 use crate::output::room;
 use answers::CallAnswer;
 use answers::FreshAnswer;
-use history::Call;
+use calls::Call;
 use text_buffer::byte;
 use text_buffer::decimal;
 use text_buffer::line_end;

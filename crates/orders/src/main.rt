@@ -1,5 +1,5 @@
 // The orders program, for the inspector: carries out any list of calls from standard input, each by
-// `history::apply` with the plain list beside it, and prints what each answers.
+// `calls::apply` with the plain list beside it, and prints what each answers.
 mod answer_texts;
 mod call_lines;
 mod faults;

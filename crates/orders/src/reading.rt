@@ -8,7 +8,7 @@ use crate::numbers::numbers;
 use crate::words::is_word;
 use crate::words::skip_blanks;
 use crate::words::word_end;
-use history::Call;
+use calls::Call;
 
 pub(crate) enum Order {
     // an empty line, or a comment

@@ -30,9 +30,9 @@ use Rattle.frame.specs.declared.ReadAnswer.the-variants.{Frame, Refused}
 use Rattle.frame.specs.Frames.{fieldsIn, readRefusal, handed, readFrame}
 use Rattle.frame.specs.Answers.{paperRead}
 use Rattle.command.specs.Command.{sentOf, sentIn, frameRefusal, entryRefusal, startCommand}
-use Rattle.history.specs.declared.Call.{Call}
-use Rattle.history.specs.declared.Call.the-variants.{StartLookup, StartWalk, StepReader, StartPut, StartChange, StartRemoval, StartCommand, StepWriter}
-use Rattle.history.specs.Calls.{applied}
+use Rattle.calls.specs.declared.Call.{Call}
+use Rattle.calls.specs.declared.Call.the-variants.{StartLookup, StartWalk, StepReader, StartPut, StartChange, StartRemoval, StartCommand, StepWriter}
+use Rattle.calls.specs.Calls.{applied}
 use Rattle.history.specs.Log.{Writing, writing, Role, readerStart, readerStep, writerStart, writerStep, roleOf, writingAfter, logAfter, freshLog}
 use Rattle.history.specs.World.{noWriterNotes, World, storesNow, endsNow, feedsNow, toldNow, rowsNow, steppedWriter, writerStepped, writerNow, noted, outcomeOf, next, freshWorld}
 use Rattle.history.specs.Claim.{ArgumentsFit}

@@ -13,9 +13,9 @@ use Rattle.plain_rows.specs.declared.Operation.{Operation as OperationFed}
 use Rattle.plain_rows.specs.declared.Operation.the-variants.{Nothing}
 use Rattle.plain_rows.specs.Rows.{rowsOf, SameFrom}
 use Rattle.plain_rows.specs.Fed.{operationOf, fedRows}
-use Rattle.history.specs.declared.Call.{Call}
-use Rattle.history.specs.declared.Call.the-variants.{StartLookup, StartWalk, StepReader, StartPut, StartChange, StartRemoval, StartCommand, StepWriter}
-use Rattle.history.specs.Calls.{applied}
+use Rattle.calls.specs.declared.Call.{Call}
+use Rattle.calls.specs.declared.Call.the-variants.{StartLookup, StartWalk, StepReader, StartPut, StartChange, StartRemoval, StartCommand, StepWriter}
+use Rattle.calls.specs.Calls.{applied}
 use Rattle.history.specs.Log.{Request, Writing, writing, Role, readerStart, readerStep, writerStart, writerStep, roleOf, writingAfter}
 use Rattle.history.specs.World.{WriterNotes, World, storesNow, endsNow, next, freshWorld}
 use Rattle.history.specs.Claim.{ArgumentsFit}

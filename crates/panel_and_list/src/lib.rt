@@ -1,15 +1,13 @@
-// A panel with the plain list of the claim beside it: calls carried out on both, and whether the slots
-// show the list.
+// A panel with the plain list of the claim beside it: calls carried out on both.
 ghost use mathlib.Core.Path.{_≡_};
 ghost use Rattle.panel_and_list.specs.Kept.{openedState, CarriedOut};
 
 mod answer_kinds;
 mod kept_list;
-pub mod rows_shown;
 
 use answers::CallAnswer;
-use history::Call;
-use history::apply;
+use calls::Call;
+use calls::apply;
 use kept_list::feeds_now;
 use kept_list::notes_now;
 use kept_list::rows_now;

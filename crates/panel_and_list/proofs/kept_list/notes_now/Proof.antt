@@ -2,7 +2,7 @@
 use mathlib.Core.Path.{refl, sym, subst}
 use denote.Ref.{now}
 use Rattle.answers.specs.Answers.{paperCall}
-use Rattle.history.specs.declared.Call.{Call}
+use Rattle.calls.specs.declared.Call.{Call}
 use Rattle.history.specs.Log.{roleOf, writingAfter}
 use Rattle.panel_and_list.specs.Kept.{fedAfter, NotesAfter}
 use Rattle.panel_and_list.proofs.KeptLaws.{begun-noted, stepped-noted}

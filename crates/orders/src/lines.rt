@@ -72,20 +72,8 @@ fn run_text(
     out: &mut [u8],
 ) -> Run {
     let mut frame = [0u8; 32];
-    run_framed(now, line, &mut frame, slots, words, places, out)
-}
-
-fn run_framed(
-    now: Run,
-    line: &[u8],
-    frame: &mut [u8],
-    slots: &mut [u64],
-    words: &mut [u64],
-    places: &mut [u32],
-    out: &mut [u8],
-) -> Run {
-    let order = order_of(line, frame);
-    run_order(now, order, frame, slots, words, places, out)
+    let order = order_of(line, &mut frame);
+    run_order(now, order, &frame, slots, words, places, out)
 }
 
 fn run_order(
@@ -169,18 +157,8 @@ fn run_call(
     }
     let state = now.state;
     let panel = state.panel;
-    let m = panel.m as usize;
-    let lent = least(m, slots.len());
-    let in_words = least(m, words.len());
-    let in_places = least(m, places.len());
-    let carried = carry_out(
-        state,
-        &mut slots[..lent],
-        &mut words[..in_words],
-        &mut places[..in_places],
-        call,
-        frame,
-    );
+    let lent = least(panel.m as usize, slots.len());
+    let carried = carry_out(state, &mut slots[..lent], words, places, call, frame);
     let after = carried.state;
     let answer = carried.answer;
     Run {

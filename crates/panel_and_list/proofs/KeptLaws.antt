@@ -1,5 +1,5 @@
 -- What is kept is the world of `history`: the laws by which a call carried out keeps it so.
-use Prim.Native.Nat.{ℕ, zero, suc, _+_}
+use Prim.Native.Nat.{ℕ, zero, suc, _+_, _≤_}
 use mathlib.Core.Bool.{Bool, true, false, cond, not, false≢true}
 use mathlib.Core.List.{List, []}
 use mathlib.Core.Path.{_≡_, refl, sym, ap, ap₂, subst, _∙_}
@@ -225,7 +225,7 @@ reached-inv (called {world} reached request fit) =
     own (world .panel .m) (world .panel .k) (next world request) (call-keeps (world .panel .m) (world .panel .k) world request (reached-inv reached) fit)
 
 -- a fresh panel of which nothing was asked
-pub opened-kept : (m k : ℕ) (words places : List ℕ) → length words ≡ m → length places ≡ m → Keeps (freshWorld m k) (openedState (freshRecord m k)) (freshWorld m k .slots) words places
+pub opened-kept : (m k : ℕ) (words places : List ℕ) → m ≤ length words → m ≤ length places → Keeps (freshWorld m k) (openedState (freshRecord m k)) (freshWorld m k .slots) words places
 unfolding freshWorld freshLog noWriterNotes rowsOf openedState
 opened-kept m k words places in-words in-places =
     record {
@@ -233,8 +233,8 @@ opened-kept m k words places in-words in-places =
       slots-kept = refl;
       rows = refl;
       notes = record { asked = refl; fed = refl };
-      words-length = in-words ∙ sym (length-replicate m 0);
-      places-length = in-places ∙ sym (length-replicate m 0);
+      words-room = omega (arith, length-replicate {A = ℕ} m 0);
+      places-room = omega (arith, length-replicate {A = ℕ} m 0);
     }
 
 -- a state that keeps such a world
@@ -258,7 +258,7 @@ module _ (world : World) (reached : Reached world) (before : PanelState) (slots 
   unfolding toldNow
   told =
       ap (λ (panel : Record). fedRows (panel .m) (panel .k) (operationOf (before .notes .asked)) words places (before .rows)) (keeps .panel)
-      ∙ fed-by-panel m k words places (before .rows) (operationOf (before .notes .asked)) (world .panel .reach) (world .panel .counts) (world .slots) agrees (keeps .words-length ∙ as-long) (keeps .places-length ∙ as-long)
+      ∙ fed-by-panel m k words places (before .rows) (operationOf (before .notes .asked)) (world .panel .reach) (world .panel .counts) (world .slots) agrees (omega (arith, as-long, keeps .words-room)) (omega (arith, as-long, keeps .places-room))
       ∙ ap answered (ap₂ (feed m k) (keeps .notes .asked) (keeps .rows))
 
   -- the slots show the list that is kept
@@ -312,6 +312,6 @@ module _ (world : World) (reached : Reached world) (before : PanelState) (slots 
           slots-kept = ap (λ (o : Outcome). o .slots) same;
           rows = out .listed .shown ∙ rows-now ∙ ap (λ (a : Answer). rowsNow world a role) answers;
           notes = subst (λ (a : Answer). NotesKept (carried .state .notes) (writingAfter (world .log .writer) role a) (writerNow world a role)) answers (notes-kept world answer role (before .notes) (carried .state .notes) (keeps .notes) noted-now);
-          words-length = out .listed .words-stay .size ∙ keeps .words-length ∙ sym whole;
-          places-length = out .listed .places-stay .size ∙ keeps .places-length ∙ sym whole;
+          words-room = omega (arith, out .listed .words-stay .size, keeps .words-room, whole);
+          places-room = omega (arith, out .listed .places-stay .size, keeps .places-room, whole);
         }

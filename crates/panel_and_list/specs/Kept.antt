@@ -85,14 +85,14 @@ pub record NotesKept (notes : Notes) (underway : Writing) (writer : WriterNotes)
   pub asked : operationOf (notes .asked) ≡ underway .operation
   pub fed : notes .fed ≡ not (eqb (writer .feeds) 0)
 
--- a world is kept: its panel and slots, its plain list in two slices of as many entries, and the notes
+-- a world is kept: its panel and slots, its plain list in two slices of at least as many entries, and the notes
 pub record Keeps (world : World) (state : PanelState) (slots words places : List ℕ) : Type 0 where
   pub panel : state .panel ≡ world .panel
   pub slots-kept : slots ≡ world .slots
   pub rows : rowsOf words places (state .rows) ≡ world .rows
   pub notes : NotesKept (state .notes) (world .log .writer) (world .writer)
-  pub words-length : length words ≡ length slots
-  pub places-length : length places ≡ length slots
+  pub words-room : length slots ≤ length words
+  pub places-room : length slots ≤ length places
 
 -- a world to which a list of calls leads from a fresh panel
 pub data Reached : World → Type 0 where

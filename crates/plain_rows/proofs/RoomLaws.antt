@@ -97,9 +97,9 @@ module _ (m k : ℕ) (words places : List ℕ) (count : ℕ) (operation : Operat
       let size = rows-length words places count in
       within-room (count + 1) room (omega arith) (fed-high m k (count + 1) (rowsOf words places count) (omega arith) (λ q h. omega arith) operation)
 
-  pub fed-by-panel : (reach : ℕ) (counts slots : List ℕ) → Agrees m k reach counts slots (rowsOf words places count) → length words ≡ m → length places ≡ m → fedRows m k operation words places count ≡ answered (feed m k operation (rowsOf words places count))
+  pub fed-by-panel : (reach : ℕ) (counts slots : List ℕ) → Agrees m k reach counts slots (rowsOf words places count) → m ≤ length words → m ≤ length places → fedRows m k operation words places count ≡ answered (feed m k operation (rowsOf words places count))
   fed-by-panel reach counts slots agrees w p =
       let rows = rowsOf words places count in
       let size = rows-length words places count in
       let few : length rows ≤ m = omega (arith, agrees .room, agrees .whole, taken-high slots) in
-      within-room m (record { in-words = omega arith; in-places = omega arith }) (omega arith) (fed-high m k m rows few (free-room m k reach counts slots rows agrees) operation)
+      within-room m (record { in-words = w; in-places = p }) (omega arith) (fed-high m k m rows few (free-room m k reach counts slots rows agrees) operation)

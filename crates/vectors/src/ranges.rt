@@ -1,4 +1,4 @@
-// A record with each of its fields in turn out of range, and at the end of its range.
+// A record with each of its fields in turn out of range, and at the end of its range: a table's rows.
 use crate::printing::line_end;
 use crate::printing::number;
 use crate::printing::text;
@@ -61,8 +61,6 @@ enum Altered {
     // a station with the number, point and action of its last command
     Station(u32, u32, u32, u32),
 }
-
-const ROWS: usize = 63;
 
 const CASES: [Altered; 63] = [
     Altered::M(8),
@@ -131,62 +129,21 @@ const CASES: [Altered; 63] = [
 ];
 
 pub(crate) fn run() {
-    for i in 0..ROWS {
-        judged(CASES[i]);
+    for row in 0..63u32 {
+        judged(row, CASES[row as usize]);
     }
 }
 
 // What the start of reader 15's walk is answered, with 8 slots.
-fn judged(altered: Altered) {
+fn judged(row: u32, altered: Altered) {
     let slots = [0u64; 8];
-    text(b"range ");
-    named(altered);
+    text(b"range");
+    number(row);
     text(b":");
     let begun = start_walk(record_with(altered), &slots, 15);
     let answer = begun.answer;
     start_answer(answer);
     line_end();
-}
-
-fn named(altered: Altered) {
-    match altered {
-        Altered::M(m) => one(b"m", m),
-        Altered::K(k) => one(b"k", k),
-        Altered::Reach(reach) => one(b"reach", reach),
-        Altered::Count(index, count) => two(b"count", index, count),
-        Altered::Lookup(reader, point) => two(b"lookup", reader, point),
-        Altered::Probe(reach, next) => two(b"lookup probing", reach, next),
-        Altered::Walk(next) => one(b"walk", next),
-        Altered::Put(point, index) => two(b"put", point, index),
-        Altered::PutProbe(reach, next) => two(b"put probing", reach, next),
-        Altered::PutFound(index) => one(b"put found", index),
-        Altered::PutChosen(index) => one(b"put chosen", index),
-        Altered::Change(point) => one(b"change", point),
-        Altered::ChangeProbe(reach, next) => two(b"change probing", reach, next),
-        Altered::ChangeFound(index) => one(b"change found", index),
-        Altered::Command(station, count, action) => {
-            two(b"command", station, count);
-            number(action);
-        }
-        Altered::Removal(point) => one(b"removal", point),
-        Altered::RemovalProbe(reach, next) => two(b"removal probing", reach, next),
-        Altered::RemovalFound(index) => one(b"removal found", index),
-        Altered::Station(station, count, point, action) => {
-            two(b"station", station, count);
-            number(point);
-            number(action);
-        }
-    }
-}
-
-fn one(name: &[u8], n: u32) {
-    text(name);
-    number(n);
-}
-
-fn two(name: &[u8], first: u32, second: u32) {
-    one(name, first);
-    number(second);
 }
 
 fn record_with(altered: Altered) -> Record {

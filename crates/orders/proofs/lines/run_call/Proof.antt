@@ -14,35 +14,17 @@ same-length c = search needs
 returns : tie.Need-returns
 returns c = search needs
 
-cast-m : tie.Need-cast-m
-cast-m c = search needs
+cast-least : tie.Need-cast-least
+cast-least c = search needs
 
 least-requires : tie.Need-least-requires
 least-requires c κs = search needs
-
-least-requires-2 : tie.Need-least-requires-2
-least-requires-2 c κs = search needs
-
-least-requires-3 : tie.Need-least-requires-3
-least-requires-3 c κs = search needs
 
 slice-relend-prefix-carry-out : tie.Need-slice-relend-prefix-carry-out
 slice-relend-prefix-carry-out c = search needs
 
 slice-aggregate-carry-out : tie.Need-slice-aggregate-carry-out
 slice-aggregate-carry-out c = simp length-take (omega arith)
-
-slice-relend-prefix-carry-out-2 : tie.Need-slice-relend-prefix-carry-out-2
-slice-relend-prefix-carry-out-2 c = search needs
-
-slice-aggregate-carry-out-2 : tie.Need-slice-aggregate-carry-out-2
-slice-aggregate-carry-out-2 c = simp length-take (omega arith)
-
-slice-relend-prefix-carry-out-3 : tie.Need-slice-relend-prefix-carry-out-3
-slice-relend-prefix-carry-out-3 c = search needs
-
-slice-aggregate-carry-out-3 : tie.Need-slice-aggregate-carry-out-3
-slice-aggregate-carry-out-3 c = simp length-take (omega arith)
 
 carry-out-requires : tie.Need-carry-out-requires
 carry-out-requires c κs = search needs
@@ -72,16 +54,10 @@ run-call-spec =
     missing-panel-requires
     same-length
     returns
-    cast-m
+    cast-least
     least-requires
-    least-requires-2
-    least-requires-3
     slice-relend-prefix-carry-out
     slice-aggregate-carry-out
-    slice-relend-prefix-carry-out-2
-    slice-aggregate-carry-out-2
-    slice-relend-prefix-carry-out-3
-    slice-aggregate-carry-out-3
     carry-out-requires
     call-line-requires
     same-length-2

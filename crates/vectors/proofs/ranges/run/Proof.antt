@@ -5,13 +5,16 @@ use Rattle.vectors.proofs.ranges.run.Statement.{statement}
 use Rattle.vectors.proofs.ranges.run.Tie as tie
 
 abbrev Inv-loop : tie.InvT-loop
-Inv-loop i₀ i = i ≤ 63
+Inv-loop row₀ row = row ≤ 63
 
 abbrev μ-loop : tie.MeasureT-loop
-μ-loop i₀ i = 63 - i
+μ-loop row₀ row = 63 - row
 
 loop-holds : tie.Need-loop-holds Inv-loop μ-loop
 loop-holds c = search needs
+
+cast-judged : tie.Need-cast-judged Inv-loop μ-loop
+cast-judged c = search needs
 
 mul-judged : tie.Need-mul-judged Inv-loop μ-loop
 mul-judged c = search needs
@@ -22,8 +25,8 @@ array-copy-out-judged c = search needs
 judged-requires : tie.Need-judged-requires Inv-loop μ-loop
 judged-requires c κs = search needs
 
-add-i : tie.Need-add-i Inv-loop μ-loop
-add-i c = search needs
+add-row : tie.Need-add-row Inv-loop μ-loop
+add-row c = search needs
 
 loop-less : tie.Need-loop-less Inv-loop μ-loop
 loop-less c = search needs
@@ -41,10 +44,11 @@ run-spec =
     Inv-loop
     μ-loop
     loop-holds
+    cast-judged
     mul-judged
     array-copy-out-judged
     judged-requires
-    add-i
+    add-row
     loop-less
     loop-again
     returns)

@@ -77,7 +77,8 @@ impl Panel {
     }
 }
 
-fn spaced<T: ToString>(numbers: &[T]) -> String {
+/// Numbers, each behind a space.
+pub fn spaced<T: ToString>(numbers: &[T]) -> String {
     let each = numbers
         .iter()
         .map(|number| " ".to_string() + &number.to_string());

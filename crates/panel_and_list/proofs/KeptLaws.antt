@@ -41,7 +41,7 @@ use Rattle.history.proofs.Theorem.{call-keeps}
 use Rattle.panel_and_list.specs.declared.Notes.{Notes}
 use Rattle.panel_and_list.specs.declared.PanelState.{PanelState}
 use Rattle.panel_and_list.specs.declared.Carried.{Carried}
-use Rattle.panel_and_list.specs.Kept.{openedState, isWriterStep, feedsAfter, rowsAfter, notesBegun, notesStepped, fedAfter, Listed, NotesAfter, CarriedOut, NotesKept, Keeps, Reached, begun, called, request}
+use Rattle.panel_and_list.specs.Kept.{openedState, isWriterStep, feedsAfter, rowsAfter, notesBegun, notesStepped, fedAfter, Listed, NotesAfter, CallOnBoth, NotesKept, Keeps, Reached, begun, called, request}
 
 -- a call stores or ends only as a step of the writer
 module _ (panel : Record) (answer : Answer) (frame : List ℕ) where
@@ -206,7 +206,7 @@ module _ (before : PanelState) (slots words places : List ℕ) (call : Call) (fr
   started-command e command s =
       started-frame (before .panel) slots frame (ap isStarted (sym (e ∙ ap (λ (x : Call). applied (before .panel) slots x frame .answer) command)) ∙ s)
 
-  pub carried-out : {feeds : Bool} → feeds ≡ feedsAfter (before .panel) (before .notes .fed) given (roleOf call frame) → outcome (carried .state .panel) slots′ given ≡ applied (before .panel) slots call frame → Listed words places words′ places′ (carried .state .rows) (rowsAfter (before .panel) feeds (operationOf (before .notes .asked)) words places (before .rows)) → ((call ≡ StartCommand → isStarted given ≡ true → frameRefusal frame ≡ 0) → NotesAfter (before .notes) feeds given (roleOf call frame) (carried .state .notes)) → CarriedOut before slots words places call frame carried slots′ words′ places′
+  pub carried-out : {feeds : Bool} → feeds ≡ feedsAfter (before .panel) (before .notes .fed) given (roleOf call frame) → outcome (carried .state .panel) slots′ given ≡ applied (before .panel) slots call frame → Listed words places words′ places′ (carried .state .rows) (rowsAfter (before .panel) feeds (operationOf (before .notes .asked)) words places (before .rows)) → ((call ≡ StartCommand → isStarted given ≡ true → frameRefusal frame ≡ 0) → NotesAfter (before .notes) feeds given (roleOf call frame) (carried .state .notes)) → CallOnBoth before slots words places call frame carried slots′ words′ places′
   carried-out feeding done listed noted =
       record {
         done = done;
@@ -268,7 +268,7 @@ module _ (world : World) (reached : Reached world) (before : PanelState) (slots 
       subst (λ (n : ℕ). Shows n slots (rowsOf words places (before .rows))) (sym as-long) (subst (λ (l : List ℕ). Shows m l (rowsOf words places (before .rows))) (sym (keeps .slots-kept)) shown)
 
   -- a call carried out
-  module _ (call : Call) (frame : List ℕ) (carried : Carried) (slots′ words′ places′ : List ℕ) (fit : ArgumentsFit call) (out : CarriedOut before slots words places call frame carried slots′ words′ places′) where
+  module _ (call : Call) (frame : List ℕ) (carried : Carried) (slots′ words′ places′ : List ℕ) (fit : ArgumentsFit call) (out : CallOnBoth before slots words places call frame carried slots′ words′ places′) where
     abbrev role : Role
     role = roleOf call frame
 

@@ -75,7 +75,7 @@ pub record NotesAfter (before : Notes) (feeds : Bool) (answer : Answer) (role : 
   pub fed : after .fed ≡ fedAfter (before .fed) feeds answer role
 
 -- what a call comes to: panel, slots and answer as `apply` has them, the list fed or not, and the notes
-pub record CarriedOut (before : PanelState) (slots words places : List ℕ) (call : Call) (frame : List ℕ) (carried : Carried) (slots′ words′ places′ : List ℕ) : Type 0 where
+pub record CallOnBoth (before : PanelState) (slots words places : List ℕ) (call : Call) (frame : List ℕ) (carried : Carried) (slots′ words′ places′ : List ℕ) : Type 0 where
   pub done : outcome (carried .state .panel) slots′ (paperCall (carried .answer)) ≡ applied (before .panel) slots call frame
   pub listed : Listed words places words′ places′ (carried .state .rows) (rowsAfter (before .panel) (feedsAfter (before .panel) (before .notes .fed) (paperCall (carried .answer)) (roleOf call frame)) (operationOf (before .notes .asked)) words places (before .rows))
   pub noted : NotesAfter (before .notes) (feedsAfter (before .panel) (before .notes .fed) (paperCall (carried .answer)) (roleOf call frame)) (paperCall (carried .answer)) (roleOf call frame) (carried .state .notes)

@@ -1,6 +1,6 @@
 // A panel with the plain list of the claim beside it: calls carried out on both.
 ghost use mathlib.Core.Path.{_≡_};
-ghost use Rattle.panel_and_list.specs.Kept.{openedState, CarriedOut};
+ghost use Rattle.panel_and_list.specs.Kept.{openedState, CallOnBoth};
 
 mod answer_kinds;
 mod kept_list;
@@ -59,7 +59,7 @@ pub fn carry_out(
     call: Call,
     frame: &[u8],
 ) -> Carried
-    ensures { λ r. ⌜ CarriedOut before (now (slots .entry)) (now (words .entry)) (now (places .entry)) call (now (frame .entry)) r (now (slots .exit)) (now (words .exit)) (now (places .exit)) ⌝ }
+    ensures { λ r. ⌜ CallOnBoth before (now (slots .entry)) (now (words .entry)) (now (places .entry)) call (now (frame .entry)) r (now (slots .exit)) (now (words .exit)) (now (places .exit)) ⌝ }
 {
     let panel = before.panel;
     let notes = before.notes;

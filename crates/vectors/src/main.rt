@@ -3,6 +3,7 @@
 // length than m, the generator's published check.
 mod disabled;
 mod fresh;
+mod list;
 mod operations;
 mod printing;
 mod ranges;
@@ -25,6 +26,7 @@ fn main() {
     disabled::run();
     writer_refusals::run();
     unreached::run();
+    list::run();
 }
 
 // The published check z(10000).

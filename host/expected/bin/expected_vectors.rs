@@ -5,6 +5,8 @@
 mod expected_disabled;
 #[path = "../expected_fresh.rs"]
 mod expected_fresh;
+#[path = "../expected_list.rs"]
+mod expected_list;
 #[path = "../expected_operations.rs"]
 mod expected_operations;
 #[path = "../expected_ranges.rs"]
@@ -43,4 +45,5 @@ fn main() {
     expected_disabled::run();
     expected_writer_refusals::run();
     expected_unreached::run();
+    expected_list::run();
 }

@@ -14,18 +14,24 @@ use lent_record::step_reader;
 use lent_record::step_writer;
 use record::Record;
 
-// A command takes the frame lent; the other calls do not look at it.
 pub(crate) fn lent(panel: Record, slots: &mut [u64], call: Call, frame: &[u8]) -> CallOutcome {
     match call {
         Call::StartLookup { reader, point } => started(start_lookup(panel, slots, reader, point)),
         Call::StartWalk { reader } => started(start_walk(panel, slots, reader)),
         Call::StepReader { reader } => stepped(step_reader(panel, slots, reader)),
+        _ => lent_to_writer(panel, slots, call, frame),
+    }
+}
+
+// The writer's calls, and last its step. A command takes the frame lent; the others do not look at it.
+fn lent_to_writer(panel: Record, slots: &mut [u64], call: Call, frame: &[u8]) -> CallOutcome {
+    match call {
         Call::StartPut { point, value } => started(start_put(panel, slots, point, value)),
         Call::StartChange { point, keep, flip } => {
             started(start_change(panel, slots, point, keep, flip))
         }
         Call::StartRemoval { point } => started(start_removal(panel, slots, point)),
         Call::StartCommand => entered(start_command(panel, slots, frame)),
-        Call::StepWriter => stepped(step_writer(panel, slots)),
+        _ => stepped(step_writer(panel, slots)),
     }
 }

@@ -88,8 +88,7 @@ fn run_order(
     match order {
         Order::Nothing => now,
         Order::Panel { m, k } => make_panel(now, m, k, slots, out),
-        Order::Call(call) => run_call(now, call, &frame[..0], slots, words, places, out),
-        Order::Command(count) => run_command(now, frame, count, slots, words, places, out),
+        Order::Call(call, count) => run_call(now, call, frame, count, slots, words, places, out),
         Order::Show => show_panel(now, slots, words, places, out),
         Order::Unreadable(fault) => with_filled(
             now,
@@ -122,31 +121,12 @@ fn least(a: usize, b: usize) -> usize
     if a < b { a } else { b }
 }
 
-fn run_command(
-    now: Run,
-    frame: &[u8],
-    count: usize,
-    slots: &mut [u64],
-    words: &mut [u64],
-    places: &mut [u32],
-    out: &mut [u8],
-) -> Run {
-    let sent = least(count, frame.len());
-    run_call(
-        now,
-        Call::StartCommand,
-        &frame[..sent],
-        slots,
-        words,
-        places,
-        out,
-    )
-}
-
+// Of the frame's bytes the call is lent as many as it has.
 fn run_call(
     now: Run,
     call: Call,
-    frame: &[u8],
+    bytes: &[u8],
+    count: usize,
     slots: &mut [u64],
     words: &mut [u64],
     places: &mut [u32],
@@ -158,6 +138,8 @@ fn run_call(
     let state = now.state;
     let panel = state.panel;
     let lent = least(panel.m as usize, slots.len());
+    let sent = least(count, bytes.len());
+    let frame = &bytes[..sent];
     let carried = carry_out(state, &mut slots[..lent], words, places, call, frame);
     let after = carried.state;
     let answer = carried.answer;

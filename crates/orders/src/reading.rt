@@ -14,10 +14,8 @@ pub(crate) enum Order {
     // an empty line, or a comment
     Nothing,
     Panel { m: u32, k: u32 },
-    // any call but a command
-    Call(Call),
-    // so many bytes of the frame
-    Command(usize),
+    // a call, and of how many bytes its frame is: 0 but for a command
+    Call(Call, usize),
     Show,
     Unreadable(Fault),
 }
@@ -182,23 +180,32 @@ fn arguments(form: Form) -> [Argument; 3] {
 fn order_with(form: Form, n: [u32; 3]) -> Order {
     match form {
         Form::Panel => Order::Panel { m: n[0], k: n[1] },
-        Form::StartLookup => Order::Call(Call::StartLookup {
-            reader: n[0],
-            point: n[1],
-        }),
-        Form::StartWalk => Order::Call(Call::StartWalk { reader: n[0] }),
-        Form::StepReader => Order::Call(Call::StepReader { reader: n[0] }),
-        Form::StepWriter => Order::Call(Call::StepWriter),
-        Form::Put => Order::Call(Call::StartPut {
-            point: n[0],
-            value: n[1],
-        }),
-        Form::Change => Order::Call(Call::StartChange {
-            point: n[0],
-            keep: n[1],
-            flip: n[2],
-        }),
-        Form::Remove => Order::Call(Call::StartRemoval { point: n[0] }),
+        Form::StartLookup => Order::Call(
+            Call::StartLookup {
+                reader: n[0],
+                point: n[1],
+            },
+            0,
+        ),
+        Form::StartWalk => Order::Call(Call::StartWalk { reader: n[0] }, 0),
+        Form::StepReader => Order::Call(Call::StepReader { reader: n[0] }, 0),
+        Form::StepWriter => Order::Call(Call::StepWriter, 0),
+        Form::Put => Order::Call(
+            Call::StartPut {
+                point: n[0],
+                value: n[1],
+            },
+            0,
+        ),
+        Form::Change => Order::Call(
+            Call::StartChange {
+                point: n[0],
+                keep: n[1],
+                flip: n[2],
+            },
+            0,
+        ),
+        Form::Remove => Order::Call(Call::StartRemoval { point: n[0] }, 0),
         _ => Order::Show,
     }
 }
@@ -208,7 +215,7 @@ fn command_order(line: &[u8], from: usize, frame: &mut [u8]) -> Order {
     let read = frame_at(line, from, frame);
     let fault = read.fault;
     match fault {
-        Fault::Nothing => Order::Command(read.count),
+        Fault::Nothing => Order::Call(Call::StartCommand, read.count),
         _ => Order::Unreadable(fault),
     }
 }

@@ -20,6 +20,12 @@ cast-least c = search needs
 least-requires : tie.Need-least-requires
 least-requires c κs = search needs
 
+least-requires-2 : tie.Need-least-requires-2
+least-requires-2 c κs = search needs
+
+slice-aggregate-frame : tie.Need-slice-aggregate-frame
+slice-aggregate-frame c = simp length-take (omega arith)
+
 slice-relend-prefix-carry-out : tie.Need-slice-relend-prefix-carry-out
 slice-relend-prefix-carry-out c = search needs
 
@@ -56,6 +62,8 @@ run-call-spec =
     returns
     cast-least
     least-requires
+    least-requires-2
+    slice-aggregate-frame
     slice-relend-prefix-carry-out
     slice-aggregate-carry-out
     carry-out-requires

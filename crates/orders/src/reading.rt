@@ -177,6 +177,7 @@ fn arguments(form: Form) -> [Argument; 3] {
     }
 }
 
+// Of the forms that have an order of their own `show` is the last.
 fn order_with(form: Form, n: [u32; 3]) -> Order {
     match form {
         Form::Panel => Order::Panel { m: n[0], k: n[1] },

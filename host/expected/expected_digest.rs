@@ -1,4 +1,4 @@
-//! The digest of the long histories of `vectors`: every number of the answers, the slots and the record, in two
+//! The digest of the long histories of `drawn_histories`: every number of the answers, the slots and the record, in two
 //! checksums.
 
 use crate::reference_calls::Answer;

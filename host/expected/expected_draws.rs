@@ -1,4 +1,4 @@
-//! The calls that `vectors` draws, and the frames that it lends to them.
+//! The calls that `drawn_histories` draws, and the frames that it lends to them.
 
 use crate::reference_calls::Call;
 use crate::reference_record::Record;

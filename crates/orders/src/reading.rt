@@ -177,7 +177,6 @@ fn arguments(form: Form) -> [Argument; 3] {
     }
 }
 
-// Of the forms that have an order of their own `show` is the last.
 fn order_with(form: Form, n: [u32; 3]) -> Order {
     match form {
         Form::Panel => Order::Panel { m: n[0], k: n[1] },
@@ -207,7 +206,8 @@ fn order_with(form: Form, n: [u32; 3]) -> Order {
             0,
         ),
         Form::Remove => Order::Call(Call::StartRemoval { point: n[0] }, 0),
-        _ => Order::Show,
+        Form::Show => Order::Show,
+        _ => Order::Unreadable(Fault::UnknownWord),
     }
 }
 

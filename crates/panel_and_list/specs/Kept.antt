@@ -7,7 +7,7 @@ use lib.Dec.{eqb}
 use lib.ListN.{length}
 use Rattle.conditions.specs.Conditions.{both, either}
 use Rattle.record.specs.declared.Record.{Record}
-use Rattle.answers.specs.Answers.{Answer, hasEnded, paperCall, Outcome, outcome}
+use Rattle.answers.specs.Answers.{Answer, hasEnded, paperCall, outcome}
 use Rattle.plain_list.specs.PlainList.{Rows, Operation}
 use Rattle.plain_rows.specs.declared.Operation.{Operation as OperationFed}
 use Rattle.plain_rows.specs.declared.Operation.the-variants.{Nothing}

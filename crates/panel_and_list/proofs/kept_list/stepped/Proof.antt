@@ -1,7 +1,6 @@
 -- `panel_and_list::kept_list::stepped` meets its contract, by whether the step ended the operation.
 use mathlib.Core.Bool.{Bool}
 use mathlib.Core.Path.{refl, sym, ap, _∙_}
-use Rattle.panel_and_list.specs.declared.Notes.{Notes}
 use Rattle.panel_and_list.specs.Kept.{notesStepped}
 use borrow.Author.Needs.{needs}
 use Rattle.panel_and_list.proofs.kept_list.stepped.Statement.{statement}

@@ -30,7 +30,7 @@ idleReader = readerWith ReaderWork·Idle
 abbrev pub unheardStation : Station
 unheardStation = record { number = 0; point = 0; action = 0; answer = Value 0 }
 
--- the record of a panel that stores nothing, everyone idle; with m and k 0 it is "all zeros, everyone idle"
+-- the record of a panel that stores nothing, everyone idle, the place in the circle "at first 0, the writer"; with m and k 0 it is "all zeros, everyone idle"
 unfoldable pub freshRecord : ℕ → ℕ → Record
 freshRecord m k =
     record {
@@ -41,6 +41,7 @@ freshRecord m k =
       writer = writerWith WriterWork·Idle;
       readers = replicate 16 idleReader;
       stations = replicate 32 unheardStation;
+      place = 0;
     }
 
 -- the record with the reach replaced
@@ -54,6 +55,7 @@ withReach panel reach =
       writer = panel .writer;
       readers = panel .readers;
       stations = panel .stations;
+      place = panel .place;
     }
 
 -- the record with the counts replaced
@@ -67,6 +69,7 @@ withCounts panel counts =
       writer = panel .writer;
       readers = panel .readers;
       stations = panel .stations;
+      place = panel .place;
     }
 
 -- the record with the writer's work replaced
@@ -80,6 +83,7 @@ withWriter panel work =
       writer = writerWith work;
       readers = panel .readers;
       stations = panel .stations;
+      place = panel .place;
     }
 
 -- the record with the readers replaced
@@ -93,6 +97,7 @@ withReaders panel readers =
       writer = panel .writer;
       readers = readers;
       stations = panel .stations;
+      place = panel .place;
     }
 
 -- the record with the stations replaced
@@ -106,6 +111,21 @@ withStations panel stations =
       writer = panel .writer;
       readers = panel .readers;
       stations = stations;
+      place = panel .place;
+    }
+
+-- the record with the place in the circle replaced
+unfoldable pub withPlace : Record → ℕ → Record
+withPlace panel place =
+    record {
+      m = panel .m;
+      k = panel .k;
+      reach = panel .reach;
+      counts = panel .counts;
+      writer = panel .writer;
+      readers = panel .readers;
+      stations = panel .stations;
+      place = place;
     }
 
 -- a reader's work; above 15 there is none

@@ -1,5 +1,6 @@
-// Document 01's record: one value that the main loop keeps and every step changes. Here are its types;
-// `parts` makes records and reads and replaces their parts; `idle` says which party has no work.
+// Document 01's record: one value that the main loop keeps and every step changes. N1 added the place in the
+// circle. Here are its types; `parts` makes records and reads and replaces their parts; `idle` says which
+// party has no work.
 pub mod idle;
 pub mod parts;
 
@@ -18,6 +19,8 @@ pub struct Record {
     pub readers: [Reader; 16],
     // at n − 1: the last command of station n
     pub stations: [Station; 32],
+    // the place in the circle, the party that a turn tries first: 0 the writer, n + 1 reader n
+    pub place: u32,
 }
 
 // How far a search for a point is. Lookups and the writer's operations share it.

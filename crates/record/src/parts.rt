@@ -1,7 +1,7 @@
 // Records made, and a part of one read or replaced. A part of an array is read from a copy of that array,
 // since the compiler would copy the whole record for it.
 ghost use mathlib.Core.Path.{_≡_};
-ghost use Rattle.record.specs.Parts.{unheardStation, freshRecord, workOf, withWork, readerPlace, withWriter, withReach, numberedPlace, countIn, countOf, withCount, stationOf, withStation};
+ghost use Rattle.record.specs.Parts.{unheardStation, freshRecord, workOf, withWork, readerPlace, withWriter, withReach, withPlace, numberedPlace, countIn, countOf, withCount, stationOf, withStation};
 use crate::CommandAnswer;
 use crate::Reader;
 use crate::ReaderWork;
@@ -43,6 +43,7 @@ pub fn fresh_record(m: u32, k: u32) -> Record
         },
         readers: readers,
         stations: stations,
+        place: 0,
     }
 }
 
@@ -95,6 +96,15 @@ pub fn with_reach(panel: Record, reach: u32) -> Record
 {
     let mut next = panel;
     next.reach = reach;
+    next
+}
+
+// The record with the place in the circle replaced.
+pub fn with_place(panel: Record, place: u32) -> Record
+    ensures { λ r. ⌜ r ≡ withPlace panel place ⌝ }
+{
+    let mut next = panel;
+    next.place = place;
     next
 }
 

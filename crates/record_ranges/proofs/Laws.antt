@@ -14,7 +14,7 @@ use Rattle.record.specs.declared.ReaderWork.{ReaderWork}
 use Rattle.record.specs.declared.ReaderWork.the-variants.{Idle, LookingUp, Walking}
 use Rattle.record.specs.declared.WriterWork.{WriterWork}
 use Rattle.record.specs.declared.Station.{Station}
-use Rattle.record.specs.Parts.{idleReader, freshRecord, workOf, withWork, withWriter, withReach, countOf, withCount, withStation, withCounts, withReaders, withStations}
+use Rattle.record.specs.Parts.{idleReader, freshRecord, workOf, withWork, withWriter, withReach, countOf, withCount, withStation, withCounts, withReaders, withStations, withPlace}
 use Rattle.record.specs.Idle.{isReaderIdle}
 use Rattle.record_ranges.specs.Ranges.{all, sizesInRange, countsInRange, readerInRange, readersInRange, stationInRange, stationsInRange, partsInRange, inRange}
 use Rattle.work_ranges.specs.WorkRanges.{workInRange, writerInRange}
@@ -62,6 +62,7 @@ pub record Fields (lent : ℕ) (panel : Record) : Type 0 where
   pub writer-fits : writerInRange (panel .k) (panel .writer .work) ≡ true
   pub readers-fit : readersInRange (panel .m) (panel .k) (panel .readers) ≡ true
   pub stations-fit : stationsInRange (panel .stations) ≡ true
+  pub place-fits : panel .place ≤ 16
 
 module _ (lent : ℕ) (panel : Record) where
   pub fields : inRange lent panel ≡ true → Fields lent panel
@@ -71,13 +72,15 @@ module _ (lent : ℕ) (panel : Record) where
       let b = both-right (leb (panel .reach) (panel .k)) _ a in
       let c = both-right (countsInRange (panel .m) (panel .k) (panel .counts)) _ b in
       let d = both-right (writerInRange (panel .k) (panel .writer .work)) _ c in
+      let e = both-right (readersInRange (panel .m) (panel .k) (panel .readers)) _ d in
       record {
         sizes-fit = both-left (sizesInRange (panel .m) (panel .k) lent) _ h;
         reach-fits = leb-true (panel .reach) (panel .k) (both-left (leb (panel .reach) (panel .k)) _ a);
         counts-fit = both-left (countsInRange (panel .m) (panel .k) (panel .counts)) _ b;
         writer-fits = both-left (writerInRange (panel .k) (panel .writer .work)) _ c;
         readers-fit = both-left (readersInRange (panel .m) (panel .k) (panel .readers)) _ d;
-        stations-fit = both-right (readersInRange (panel .m) (panel .k) (panel .readers)) _ d;
+        stations-fit = both-left (stationsInRange (panel .stations)) _ e;
+        place-fits = leb-true (panel .place) 16 (both-right (stationsInRange (panel .stations)) _ e);
       }
 
   pub sizes-in-range : inRange lent panel ≡ true → Sizes (panel .m) (panel .k) lent
@@ -101,7 +104,7 @@ module _ (lent : ℕ) (panel : Record) where
   in-range f =
       both-true _ _ (f .sizes-fit)
       (both-true _ _ (le-leb (panel .reach) (panel .k) (f .reach-fits))
-      (both-true _ _ (f .counts-fit) (both-true _ _ (f .writer-fits) (both-true _ _ (f .readers-fit) (f .stations-fit)))))
+      (both-true _ _ (f .counts-fit) (both-true _ _ (f .writer-fits) (both-true _ _ (f .readers-fit) (both-true _ _ (f .stations-fit) (le-leb (panel .place) 16 (f .place-fits)))))))
 
 -- a record in range stays so if what replaces a part of it is in range
 module _ (lent : ℕ) (panel : Record) (h : inRange lent panel ≡ true) where
@@ -117,6 +120,7 @@ module _ (lent : ℕ) (panel : Record) (h : inRange lent panel ≡ true) where
         writer-fits = f .writer-fits;
         readers-fit = readers-replaced lent panel reader work (f .readers-fit) e;
         stations-fit = f .stations-fit;
+        place-fits = f .place-fits;
       })
 
   pub with-writer-in-range : (work : WriterWork) → writerInRange (panel .k) work ≡ true → inRange lent (withWriter panel work) ≡ true
@@ -131,6 +135,7 @@ module _ (lent : ℕ) (panel : Record) (h : inRange lent panel ≡ true) where
         writer-fits = e;
         readers-fit = f .readers-fit;
         stations-fit = f .stations-fit;
+        place-fits = f .place-fits;
       })
 
   pub with-reach-in-range : (reach : ℕ) → reach ≤ panel .k → inRange lent (withReach panel reach) ≡ true
@@ -145,6 +150,7 @@ module _ (lent : ℕ) (panel : Record) (h : inRange lent panel ≡ true) where
         writer-fits = f .writer-fits;
         readers-fit = f .readers-fit;
         stations-fit = f .stations-fit;
+        place-fits = f .place-fits;
       })
 
   pub with-count-in-range : (index count : ℕ) → count ≤ panel .m → inRange lent (withCount panel index count) ≡ true
@@ -159,6 +165,7 @@ module _ (lent : ℕ) (panel : Record) (h : inRange lent panel ≡ true) where
         writer-fits = f .writer-fits;
         readers-fit = f .readers-fit;
         stations-fit = f .stations-fit;
+        place-fits = f .place-fits;
       })
 
   pub with-station-in-range : (station : ℕ) (last : Station) → stationInRange last ≡ true → inRange lent (withStation panel station last) ≡ true
@@ -173,6 +180,22 @@ module _ (lent : ℕ) (panel : Record) (h : inRange lent panel ≡ true) where
         writer-fits = f .writer-fits;
         readers-fit = f .readers-fit;
         stations-fit = all-replaced stationInRange (panel .stations) station last (f .stations-fit) e;
+        place-fits = f .place-fits;
+      })
+
+  pub with-place-in-range : (place : ℕ) → place ≤ 16 → inRange lent (withPlace panel place) ≡ true
+  unfolding withPlace
+  with-place-in-range place e =
+      let f = fields lent panel h in
+      in-range lent (withPlace panel place)
+      (record {
+        sizes-fit = f .sizes-fit;
+        reach-fits = f .reach-fits;
+        counts-fit = f .counts-fit;
+        writer-fits = f .writer-fits;
+        readers-fit = f .readers-fit;
+        stations-fit = f .stations-fit;
+        place-fits = e;
       })
 
   -- "how many stored points use it (0 to m)", of an index that is judged

@@ -43,13 +43,13 @@ stationInRange station =
 unfoldable pub stationsInRange : List Station → Bool
 stationsInRange stations = all stationInRange stations
 
--- every field in range, for a number of slots lent, by what holds of the three arrays; "the reach (0 to k)"
-unfoldable pub partsInRange : ℕ → ℕ → ℕ → ℕ → Bool → WriterWork → Bool → Bool → Bool
-partsInRange lent m k reach counts work readers stations =
-    both (sizesInRange m k lent) (both (leb reach k) (both counts (both (writerInRange k work) (both readers stations))))
+-- every field in range, for a number of slots lent, by what holds of the three arrays; "the reach (0 to k)"; "The place in the circle .. is a record field, 0 to 16"
+unfoldable pub partsInRange : ℕ → ℕ → ℕ → ℕ → Bool → WriterWork → Bool → Bool → ℕ → Bool
+partsInRange lent m k reach counts work readers stations place =
+    both (sizesInRange m k lent) (both (leb reach k) (both counts (both (writerInRange k work) (both readers (both stations (leb place 16))))))
 
 -- every field of a record in range
 unfoldable pub inRange : ℕ → Record → Bool
 inRange lent panel =
     partsInRange lent (panel .m) (panel .k) (panel .reach) (countsInRange (panel .m) (panel .k) (panel .counts)) (panel .writer .work) (readersInRange (panel .m) (panel .k) (panel .readers))
-    (stationsInRange (panel .stations))
+    (stationsInRange (panel .stations)) (panel .place)

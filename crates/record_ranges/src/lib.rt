@@ -115,8 +115,9 @@ pub fn are_parts_in_range(
     writer: Writer,
     readers: bool,
     stations: bool,
+    place: u32,
 ) -> bool
-    ensures { λ r. ⌜ r ≡ partsInRange lent m k reach counts (writer .work) readers stations ⌝ }
+    ensures { λ r. ⌜ r ≡ partsInRange lent m k reach counts (writer .work) readers stations place ⌝ }
 {
     let work = writer.work;
     both_hold(
@@ -125,7 +126,10 @@ pub fn are_parts_in_range(
             reach <= k,
             both_hold(
                 counts,
-                both_hold(is_writer_in_range(work, k), both_hold(readers, stations)),
+                both_hold(
+                    is_writer_in_range(work, k),
+                    both_hold(readers, both_hold(stations, place <= 16)),
+                ),
             ),
         ),
     )
@@ -148,5 +152,6 @@ pub fn is_in_range(panel: Record, lent: usize) -> bool
         writer,
         are_readers_in_range(readers, panel.m, panel.k),
         are_stations_in_range(stations),
+        panel.place,
     )
 }

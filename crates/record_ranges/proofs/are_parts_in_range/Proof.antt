@@ -25,6 +25,9 @@ both-hold-requires-4 c κs = search needs
 both-hold-requires-5 : tie.Need-both-hold-requires-5
 both-hold-requires-5 c κs = search needs
 
+both-hold-requires-6 : tie.Need-both-hold-requires-6
+both-hold-requires-6 c κs = search needs
+
 returns : tie.Need-returns
 unfolding partsInRange
 returns c = cc
@@ -40,4 +43,5 @@ are-parts-in-range-spec =
     both-hold-requires-3
     both-hold-requires-4
     both-hold-requires-5
+    both-hold-requires-6
     returns)

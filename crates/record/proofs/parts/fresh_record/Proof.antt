@@ -25,6 +25,7 @@ returns c =
       writer = writerWith WriterWork·Idle;
       readers = replicate 16 idleReader;
       stations = replicate 32 silent;
+      place = 0;
     })
     (c .unheard .ensures)
 

@@ -24,8 +24,10 @@ use Rattle.answers.specs.declared.StartAnswer.{StartAnswer}
 use Rattle.answers.specs.declared.StartAnswer.the-variants.{Started as StartAnswer·Started, Refused as StartAnswer·Refused}
 use Rattle.answers.specs.declared.EntryAnswer.{EntryAnswer}
 use Rattle.answers.specs.declared.EntryAnswer.the-variants.{Started as EntryAnswer·Started, GivenAgain as EntryAnswer·GivenAgain, Refused as EntryAnswer·Refused}
+use Rattle.answers.specs.declared.TurnAnswer.{TurnAnswer}
+use Rattle.answers.specs.declared.TurnAnswer.the-variants.{Served as TurnAnswer·Served, Refused as TurnAnswer·Refused}
 use Rattle.answers.specs.declared.CallAnswer.{CallAnswer}
-use Rattle.answers.specs.declared.CallAnswer.the-variants.{Started as CallAnswer·Started, GivenAgain as CallAnswer·GivenAgain, Stepped as CallAnswer·Stepped, Refused as CallAnswer·Refused}
+use Rattle.answers.specs.declared.CallAnswer.the-variants.{Started as CallAnswer·Started, GivenAgain as CallAnswer·GivenAgain, Stepped as CallAnswer·Stepped, Served as CallAnswer·Served, Refused as CallAnswer·Refused}
 use Rattle.answers.specs.declared.WholeAnswer.{WholeAnswer}
 use Rattle.answers.specs.declared.WholeAnswer.the-variants.{Ended as WholeAnswer·Ended, Refused as WholeAnswer·Refused}
 use Rattle.answers.specs.declared.FreshAnswer.{FreshAnswer}
@@ -34,7 +36,7 @@ use Rattle.answers.specs.declared.TotalAnswer.{TotalAnswer}
 use Rattle.answers.specs.declared.TotalAnswer.the-variants.{Total, Refused as TotalAnswer·Refused}
 use Rattle.answers.specs.declared.DisplayAnswer.{DisplayAnswer}
 use Rattle.answers.specs.declared.DisplayAnswer.the-variants.{Shown, Refused as DisplayAnswer·Refused}
-use Rattle.answers.specs.Answers.{Ending, lookedUp, placed, changed, removed, endedWith, Answer, started, underway, ended, walked, walkedLast, givenAgain, gives, refused, Progress, continues, finishes, isStarted, isRefused, unlessRefused, storedAnswer, paperEnding, paperProgress, paperResult, paperStep, paperStart, paperEntry, paperCall, paperWhole, paperFresh, paperTotal, paperDisplay}
+use Rattle.answers.specs.Answers.{Ending, lookedUp, placed, changed, removed, endedWith, Answer, started, underway, ended, walked, walkedLast, served, givenAgain, gives, refused, Progress, continues, finishes, isStarted, isRefused, unlessRefused, storedAnswer, paperEnding, paperProgress, paperResult, paperStep, paperStart, paperEntry, paperTurn, paperCall, paperWhole, paperFresh, paperTotal, paperDisplay}
 
 module _ {A : Type 0} (left : Answer → A) (done : A) where
   by-number : (n : ℕ) → 1 ≤ n → unlessRefused n left done ≡ left (refused n)
@@ -87,13 +89,22 @@ asStored (changed value) = Value value
 asStored (removed reach) = CommandAnswer·Unknown
 asStored (endedWith n) = CommandAnswer·Unknown
 
--- any call's answer, by which those of steps, starts and the command entry are told too
+-- a turn's answer from what the step gave
+servedAs : ℕ → CallAnswer → CallAnswer
+servedAs party CallAnswer·Started = CallAnswer·Started
+servedAs party (CallAnswer·GivenAgain answer) = CallAnswer·Started
+servedAs party (CallAnswer·Stepped result) = CallAnswer·Served party result
+servedAs party (CallAnswer·Served other result) = CallAnswer·Started
+servedAs party (CallAnswer·Refused r) = CallAnswer·Started
+
+-- any call's answer, by which those of steps, starts, turns and the command entry are told too
 asCall : Answer → CallAnswer
 asCall started = CallAnswer·Started
 asCall underway = CallAnswer·Stepped StepResult·Underway
 asCall (ended ending) = CallAnswer·Stepped (StepResult·Ended (asEnding ending))
 asCall (walked word) = CallAnswer·Stepped (Walked word)
 asCall (walkedLast word) = CallAnswer·Stepped (WalkedLast word)
+asCall (served party answer) = servedAs party (asCall answer)
 asCall (givenAgain ending) = CallAnswer·GivenAgain (asStored ending)
 asCall (gives values) = CallAnswer·Started
 asCall (refused n) = CallAnswer·Refused (rowOf n)
@@ -103,18 +114,28 @@ ofStep : CallAnswer → StepAnswer
 ofStep CallAnswer·Started = StepAnswer·Stepped StepResult·Underway
 ofStep (CallAnswer·GivenAgain answer) = StepAnswer·Stepped StepResult·Underway
 ofStep (CallAnswer·Stepped result) = StepAnswer·Stepped result
+ofStep (CallAnswer·Served party result) = StepAnswer·Stepped StepResult·Underway
 ofStep (CallAnswer·Refused r) = StepAnswer·Refused r
+
+ofTurn : CallAnswer → TurnAnswer
+ofTurn CallAnswer·Started = TurnAnswer·Served 0 StepResult·Underway
+ofTurn (CallAnswer·GivenAgain answer) = TurnAnswer·Served 0 StepResult·Underway
+ofTurn (CallAnswer·Stepped result) = TurnAnswer·Served 0 StepResult·Underway
+ofTurn (CallAnswer·Served party result) = TurnAnswer·Served party result
+ofTurn (CallAnswer·Refused r) = TurnAnswer·Refused r
 
 ofEntry : CallAnswer → EntryAnswer
 ofEntry CallAnswer·Started = EntryAnswer·Started
 ofEntry (CallAnswer·GivenAgain answer) = EntryAnswer·GivenAgain answer
 ofEntry (CallAnswer·Stepped result) = EntryAnswer·Started
+ofEntry (CallAnswer·Served party result) = EntryAnswer·Started
 ofEntry (CallAnswer·Refused r) = EntryAnswer·Refused r
 
 ofStart : CallAnswer → StartAnswer
 ofStart CallAnswer·Started = StartAnswer·Started
 ofStart (CallAnswer·GivenAgain answer) = StartAnswer·Started
 ofStart (CallAnswer·Stepped result) = StartAnswer·Started
+ofStart (CallAnswer·Served party result) = StartAnswer·Started
 ofStart (CallAnswer·Refused r) = StartAnswer·Refused r
 
 endingOf : StepResult → EndingEnum
@@ -127,6 +148,7 @@ ofWhole : CallAnswer → WholeAnswer
 ofWhole CallAnswer·Started = WholeAnswer·Ended Unknown
 ofWhole (CallAnswer·GivenAgain answer) = WholeAnswer·Ended Unknown
 ofWhole (CallAnswer·Stepped result) = WholeAnswer·Ended (endingOf result)
+ofWhole (CallAnswer·Served party result) = WholeAnswer·Ended Unknown
 ofWhole (CallAnswer·Refused r) = WholeAnswer·Refused r
 
 -- the number of a refusal, and the first of the values, of the calls without steps
@@ -136,6 +158,7 @@ refusal underway = rowOf 0
 refusal (ended ending) = rowOf 0
 refusal (walked word) = rowOf 0
 refusal (walkedLast word) = rowOf 0
+refusal (served party answer) = rowOf 0
 refusal (givenAgain ending) = rowOf 0
 refusal (gives values) = rowOf 0
 refusal (refused n) = rowOf n
@@ -146,6 +169,7 @@ values underway = []
 values (ended ending) = []
 values (walked word) = []
 values (walkedLast word) = []
+values (served party answer) = []
 values (givenAgain ending) = []
 values (gives some) = some
 values (refused n) = []
@@ -192,13 +216,14 @@ progress-tells = LeftInverse·injective asProgress paperProgress back
     back (Progress·Ended ending) = ap Progress·Ended (ending-back ending)
 
 pub call-tells : (a b : CallAnswer) → paperCall a ≡ paperCall b → a ≡ b
-unfolding asCall
+unfolding asCall servedAs
 call-tells = LeftInverse·injective asCall paperCall back
   where
     back : (a : CallAnswer) → asCall (paperCall a) ≡ a
     back CallAnswer·Started = refl
     back (CallAnswer·GivenAgain answer) = ap CallAnswer·GivenAgain (stored-back answer)
     back (CallAnswer·Stepped result) = result-back result
+    back (CallAnswer·Served party result) = ap (servedAs party) (result-back result)
     back (CallAnswer·Refused r) = ap CallAnswer·Refused (row-of-number r)
 
 pub step-tells : (a b : StepAnswer) → paperStep a ≡ paperStep b → a ≡ b
@@ -208,6 +233,14 @@ step-tells = LeftInverse·injective (λ (answer : Answer). ofStep (asCall answer
     back : (a : StepAnswer) → ofStep (asCall (paperStep a)) ≡ a
     back (StepAnswer·Stepped result) = ap ofStep (result-back result)
     back (StepAnswer·Refused r) = ap StepAnswer·Refused (row-of-number r)
+
+pub turn-tells : (a b : TurnAnswer) → paperTurn a ≡ paperTurn b → a ≡ b
+unfolding asCall servedAs ofTurn
+turn-tells = LeftInverse·injective (λ (answer : Answer). ofTurn (asCall answer)) paperTurn back
+  where
+    back : (a : TurnAnswer) → ofTurn (asCall (paperTurn a)) ≡ a
+    back (TurnAnswer·Served party result) = ap (λ (answer : CallAnswer). ofTurn (servedAs party answer)) (result-back result)
+    back (TurnAnswer·Refused r) = ap TurnAnswer·Refused (row-of-number r)
 
 pub entry-tells : (a b : EntryAnswer) → paperEntry a ≡ paperEntry b → a ≡ b
 unfolding asCall ofEntry

@@ -18,8 +18,10 @@ use Rattle.answers.specs.declared.StartAnswer.{StartAnswer}
 use Rattle.answers.specs.declared.StartAnswer.the-variants.{Started as StartAnswer·Started, Refused as StartAnswer·Refused}
 use Rattle.answers.specs.declared.EntryAnswer.{EntryAnswer}
 use Rattle.answers.specs.declared.EntryAnswer.the-variants.{Started as EntryAnswer·Started, GivenAgain as EntryAnswer·GivenAgain, Refused as EntryAnswer·Refused}
+use Rattle.answers.specs.declared.TurnAnswer.{TurnAnswer}
+use Rattle.answers.specs.declared.TurnAnswer.the-variants.{Served as TurnAnswer·Served, Refused as TurnAnswer·Refused}
 use Rattle.answers.specs.declared.CallAnswer.{CallAnswer}
-use Rattle.answers.specs.declared.CallAnswer.the-variants.{Started as CallAnswer·Started, GivenAgain as CallAnswer·GivenAgain, Stepped as CallAnswer·Stepped, Refused as CallAnswer·Refused}
+use Rattle.answers.specs.declared.CallAnswer.the-variants.{Started as CallAnswer·Started, GivenAgain as CallAnswer·GivenAgain, Stepped as CallAnswer·Stepped, Served as CallAnswer·Served, Refused as CallAnswer·Refused}
 use Rattle.answers.specs.declared.WholeAnswer.{WholeAnswer}
 use Rattle.answers.specs.declared.WholeAnswer.the-variants.{Ended as WholeAnswer·Ended, Refused as WholeAnswer·Refused}
 use Rattle.answers.specs.declared.FreshAnswer.{FreshAnswer}
@@ -54,6 +56,8 @@ pub data Answer : Type 0 where
   walked : ℕ → Answer
   -- "and the m-th also ends the walk"
   walkedLast : ℕ → Answer
+  -- a turn: "it hands back the party served, with 6 and 7 too, and what its step gave"
+  served : ℕ → Answer → Answer
   -- "the stored answer is given again"
   givenAgain : Ending → Answer
   -- a call without steps: its values
@@ -113,11 +117,17 @@ paperEntry EntryAnswer·Started = started
 paperEntry (EntryAnswer·GivenAgain answer) = givenAgain (storedAnswer answer)
 paperEntry (EntryAnswer·Refused r) = refused (numberOf r)
 
+-- a turn
+abbrev pub paperTurn : TurnAnswer → Answer
+paperTurn (TurnAnswer·Served party result) = served party (paperResult result)
+paperTurn (TurnAnswer·Refused r) = refused (numberOf r)
+
 -- any call of a list
 abbrev pub paperCall : CallAnswer → Answer
 paperCall CallAnswer·Started = started
 paperCall (CallAnswer·GivenAgain answer) = givenAgain (storedAnswer answer)
 paperCall (CallAnswer·Stepped result) = paperResult result
+paperCall (CallAnswer·Served party result) = served party (paperResult result)
 paperCall (CallAnswer·Refused r) = refused (numberOf r)
 
 -- an operation that is carried out whole
@@ -147,6 +157,7 @@ isUnderway underway = true
 isUnderway (ended ending) = false
 isUnderway (walked word) = true
 isUnderway (walkedLast word) = false
+isUnderway (served party answer) = isUnderway answer
 isUnderway (givenAgain ending) = false
 isUnderway (gives values) = false
 isUnderway (refused n) = false
@@ -158,6 +169,7 @@ hasEnded underway = false
 hasEnded (ended ending) = true
 hasEnded (walked word) = false
 hasEnded (walkedLast word) = true
+hasEnded (served party answer) = hasEnded answer
 hasEnded (givenAgain ending) = false
 hasEnded (gives values) = false
 hasEnded (refused n) = false
@@ -169,6 +181,7 @@ isStarted underway = false
 isStarted (ended ending) = false
 isStarted (walked word) = false
 isStarted (walkedLast word) = false
+isStarted (served party answer) = isStarted answer
 isStarted (givenAgain ending) = false
 isStarted (gives values) = false
 isStarted (refused n) = false
@@ -180,6 +193,7 @@ isRefused underway = false
 isRefused (ended ending) = false
 isRefused (walked word) = false
 isRefused (walkedLast word) = false
+isRefused (served party answer) = isRefused answer
 isRefused (givenAgain ending) = false
 isRefused (gives values) = false
 isRefused (refused n) = true

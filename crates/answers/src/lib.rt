@@ -63,11 +63,19 @@ pub enum EntryAnswer {
     Refused(Refusal),
 }
 
-// Of any call of a list: each answer of the three kinds above once.
+// Of a turn.
+pub enum TurnAnswer {
+    // the party served, 0 the writer and n + 1 reader n, and what its step gave
+    Served { party: u32, result: StepResult },
+    Refused(Refusal),
+}
+
+// Of any call of a list: each answer of the four kinds above once.
 pub enum CallAnswer {
     Started,
     GivenAgain(CommandAnswer),
     Stepped(StepResult),
+    Served { party: u32, result: StepResult },
     Refused(Refusal),
 }
 
@@ -111,6 +119,12 @@ pub struct EntryOutcome {
 pub struct StepOutcome {
     pub panel: Record,
     pub answer: StepAnswer,
+}
+
+// What a turn leaves.
+pub struct TurnOutcome {
+    pub panel: Record,
+    pub answer: TurnAnswer,
 }
 
 // What any call of a list leaves.

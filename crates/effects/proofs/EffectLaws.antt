@@ -74,14 +74,15 @@ pub record Updated (panel : Record) (update : Update) : Type 0 where
   pub k-stays : updated panel update .k ≡ panel .k
   pub readers-stay : updated panel update .readers ≡ panel .readers
   pub reach-after : updated panel update .reach ≡ reachAfter (panel .reach) update
+  pub place-stays : updated panel update .place ≡ panel .place
 
 pub update-leaves : (panel : Record) (update : Update) → Updated panel update
 unfolding updated counted uncounted withReach withCount withCounts withStation withStations
-update-leaves panel Nothing = record { m-stays = refl; k-stays = refl; readers-stay = refl; reach-after = refl }
-update-leaves panel (Reach reach) = record { m-stays = refl; k-stays = refl; readers-stay = refl; reach-after = refl }
-update-leaves panel (Counted index) = record { m-stays = refl; k-stays = refl; readers-stay = refl; reach-after = refl }
-update-leaves panel (Uncounted index) = record { m-stays = refl; k-stays = refl; readers-stay = refl; reach-after = refl }
-update-leaves panel (Answered command) = record { m-stays = refl; k-stays = refl; readers-stay = refl; reach-after = refl }
+update-leaves panel Nothing = record { m-stays = refl; k-stays = refl; readers-stay = refl; reach-after = refl; place-stays = refl }
+update-leaves panel (Reach reach) = record { m-stays = refl; k-stays = refl; readers-stay = refl; reach-after = refl; place-stays = refl }
+update-leaves panel (Counted index) = record { m-stays = refl; k-stays = refl; readers-stay = refl; reach-after = refl; place-stays = refl }
+update-leaves panel (Uncounted index) = record { m-stays = refl; k-stays = refl; readers-stay = refl; reach-after = refl; place-stays = refl }
+update-leaves panel (Answered command) = record { m-stays = refl; k-stays = refl; readers-stay = refl; reach-after = refl; place-stays = refl }
 
 -- the place of the count is one of the counts
 pub count-place-below : (update : Update) → countPlace update < 64

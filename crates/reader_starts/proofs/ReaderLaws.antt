@@ -43,6 +43,7 @@ module _ (reader : ℕ) (panel : Record) (slots : List ℕ) where
         counts-stay = refl;
         writer-stays = refl;
         stations-stay = refl;
+        place-stays = refl;
         others-stay = λ other h. refl;
       }
 
@@ -57,6 +58,7 @@ module _ (reader : ℕ) (panel : Record) (slots : List ℕ) where
         counts-stay = refl;
         writer-stays = refl;
         stations-stay = refl;
+        place-stays = refl;
         others-stay = λ other h. others-stay panel reader other work h;
       }
 

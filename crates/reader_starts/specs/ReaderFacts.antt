@@ -18,6 +18,7 @@ pub record OnlyWorkOf (reader : ℕ) (panel : Record) (slots : List ℕ) (after 
   pub counts-stay : after .panel .counts ≡ panel .counts
   pub writer-stays : after .panel .writer ≡ panel .writer
   pub stations-stay : after .panel .stations ≡ panel .stations
+  pub place-stays : after .panel .place ≡ panel .place
   pub others-stay : (other : ℕ) → other ≢ reader → workOf (after .panel) other ≡ workOf panel other
 
 -- what a reader's step may meet, whatever the others did before it: the record's reach, and the word in the slot that it reads

@@ -13,7 +13,7 @@ use Rattle.record.specs.Idle.{isReaderIdle}
 use Rattle.record.proofs.WorkLaws.{same-work, reader-place-known}
 use Rattle.record_ranges.specs.Ranges.{inRange}
 use Rattle.answers.specs.Answers.{Outcome, outcome, refused, unlessRefused}
-use Rattle.reader_step.specs.Reader.{ReaderEffect, effectOf, readerAccess, readerAdvance, workRefusal, stepRefusal, stepWork, afterStep, readerRuns, stepReader}
+use Rattle.reader_step.specs.Reader.{ReaderEffect, effectOf, readerAccess, readerAdvance, workRefusal, stepRefusal, stepWork, afterStep, readerRuns, stepJudged, stepReader}
 use Rattle.search.specs.Access.{wordRead}
 
 module _ (panel : Record) (slots : List ℕ) (reader : ℕ) where
@@ -23,9 +23,14 @@ module _ (panel : Record) (slots : List ℕ) (reader : ℕ) where
   by-work zero effect = refl
   by-work (suc n) effect = ap (λ (p : Record). outcome p slots (refused (suc n))) (same-work panel reader (workOf panel reader) refl)
 
-  pub step-by-work : afterStep panel slots reader (stepWork (inRange (length slots) panel) reader (panel .m) (panel .reach) (workOf panel reader) slots) ≡ stepReader panel slots reader
-  unfolding stepWork stepReader stepRefusal readerRuns
-  step-by-work = by-work _ _
+  pub step-by-work : (fits : Bool) → afterStep panel slots reader (stepWork fits reader (panel .m) (panel .reach) (workOf panel reader) slots) ≡ stepJudged fits panel slots reader
+  unfolding stepWork stepJudged readerRuns
+  step-by-work fits = by-work _ _
+
+  -- a reader's step judges the record first
+  pub judged-first : stepJudged (inRange (length slots) panel) panel slots reader ≡ stepReader panel slots reader
+  unfolding stepJudged stepReader stepRefusal
+  judged-first = refl
 
 -- A reader's call on the work found at the reader's place, and what it makes of it put there. Above 15 that place is another reader's; there the call is
 -- refused, whatever is judged later, and so leaves that reader's work.

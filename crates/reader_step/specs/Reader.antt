@@ -96,6 +96,11 @@ unfoldable pub readerRuns : Record → List ℕ → ℕ → ReaderWork → Outco
 readerRuns panel slots reader work =
     afterStep panel slots reader (readerAdvance (panel .m) (panel .reach) work (wordRead slots (readerAccess (panel .m) work)))
 
+-- a reader's step, by whether the record is in range
+unfoldable pub stepJudged : Bool → Record → List ℕ → ℕ → Outcome
+stepJudged fits panel slots reader =
+    unlessRefused (workRefusal fits reader (workOf panel reader)) (outcome panel slots) (readerRuns panel slots reader (workOf panel reader))
+
 -- a reader's step
 unfoldable pub stepReader : Record → List ℕ → ℕ → Outcome
 stepReader panel slots reader =

@@ -3,7 +3,7 @@
 ghost use mathlib.Core.Path.{_≡_};
 ghost use Rattle.refusal.specs.Refusals.{paperJudged};
 ghost use Rattle.answers.specs.Answers.{paperEnding, paperStep, outcome};
-ghost use Rattle.reader_step.specs.Reader.{readerAccess, paperEffect, paperStepped, lookupEnding, lookupAdvance, walkAdvance, readerAdvance, workRefusal, stepWork, stepReader};
+ghost use Rattle.reader_step.specs.Reader.{readerAccess, paperEffect, paperStepped, lookupEnding, lookupAdvance, walkAdvance, readerAdvance, workRefusal, stepWork, stepJudged, stepReader};
 use answers::Ending;
 use answers::StepAnswer;
 use answers::StepOutcome;
@@ -167,11 +167,10 @@ pub fn step_work(
     }
 }
 
-// The next step of a reader's lookup or walk.
-pub fn step_reader(panel: Record, slots: &[u64], reader: u32) -> StepOutcome
-    ensures { λ r. ⌜ outcome (r .panel) (now (slots .entry)) (paperStep (r .answer)) ≡ stepReader panel (now (slots .entry)) reader ⌝ }
+// The next step of a reader's lookup or walk, of a record that has been judged.
+pub fn step_judged(fits: bool, panel: Record, slots: &[u64], reader: u32) -> StepOutcome
+    ensures { λ r. ⌜ outcome (r .panel) (now (slots .entry)) (paperStep (r .answer)) ≡ stepJudged fits panel (now (slots .entry)) reader ⌝ }
 {
-    let fits = is_in_range(panel, slots.len());
     let found = Reader {
         work: work_of(panel, reader),
     };
@@ -183,4 +182,11 @@ pub fn step_reader(panel: Record, slots: &[u64], reader: u32) -> StepOutcome
         panel: with_work(panel, reader, work),
         answer: answer,
     }
+}
+
+// The next step of a reader's lookup or walk.
+pub fn step_reader(panel: Record, slots: &[u64], reader: u32) -> StepOutcome
+    ensures { λ r. ⌜ outcome (r .panel) (now (slots .entry)) (paperStep (r .answer)) ≡ stepReader panel (now (slots .entry)) reader ⌝ }
+{
+    step_judged(is_in_range(panel, slots.len()), panel, slots, reader)
 }

@@ -2,26 +2,17 @@
 use Prim.Native.Nat.{ℕ, zero, suc}
 use mathlib.Core.Path.{_≡_, refl, ap}
 use mathlib.Core.List.{List}
-use lib.ListN.{length, getD, set}
+use lib.ListN.{length, getD}
 use Rattle.record.specs.declared.Record.{Record}
-use Rattle.record.specs.Parts.{unheardStation, withReach, withCounts, withStations, withWriter}
+use Rattle.record.specs.Parts.{unheardStation, withWriter}
 use Rattle.record_ranges.specs.Ranges.{inRange}
 use Rattle.record_ranges.proofs.Laws.{sizes-in-range}
-use Rattle.answers.specs.Answers.{refused, stepAnswer, Outcome, outcome, unlessRefused}
+use Rattle.answers.specs.Answers.{refused, stepAnswer, outcome, unlessRefused}
 use Rattle.effects.specs.Memory.{slotStored, accessRead, slotsAfter}
 use Rattle.effects.proofs.EffectLaws.{same-in-parts, updated-in-parts}
 use Rattle.writer.specs.Step.{writerAccess, writerAdvance, stepRefusal, afterStep, writerRuns, stepWriter}
-use Rattle.writer.specs.Work.{WorkOutcome, workLeft, afterAccess, workRuns, stepWork, stationAt, StepStores, stores}
+use Rattle.writer.specs.Work.{WorkOutcome, workLeft, afterAccess, workRuns, stepWork, stationAt, StepStores, stores, storedIn, stepStored}
 use Rattle.writer.proofs.WriterLaws.{at-work, run-update-fits}
-
--- the record with what a step hands back stored in it, the station's last command at this place; the slots and the answer
-abbrev pub storedIn : Record → ℕ → StepStores → Outcome
-storedIn panel place next =
-    outcome
-    (withWriter
-    (withStations (withCounts (withReach panel (next .reach)) (set (panel .counts) (next .at) (next .count))) (set (panel .stations) place (next .station)))
-    (next .work))
-    (next .slots) (next .answer)
 
 module _ (panel : Record) (slots : List ℕ) where
   abbrev place : ℕ
@@ -41,6 +32,6 @@ module _ (panel : Record) (slots : List ℕ) where
       (updated-in-parts panel place (effect .update) (sizes-in-range (length slots) panel (w .0) .k-high) (run-update-fits panel slots (w .0) (w .1)))
   by-number (suc n) e = ap (λ (p : Record). outcome (withWriter p (panel .writer .work)) slots (refused (suc n))) (same-in-parts panel place)
 
-  pub step-in-place : storedIn panel place (handsBack (stepWork (inRange (length slots) panel) (panel .m) (panel .k) (panel .reach) (panel .counts) (panel .writer .work) slots)) ≡ stepWriter panel slots
-  unfolding stepWork stepWriter stepRefusal
+  pub step-in-place : stepStored (inRange (length slots) panel) panel slots ≡ stepWriter panel slots
+  unfolding stepStored stepWork stepWriter stepRefusal
   step-in-place = by-number (stepRefusal (length slots) panel) refl

@@ -146,12 +146,12 @@ writer-inside panel (Changing change) low = change-inside (panel .m) change low
 writer-inside panel (Removing removal) low = removal-inside (panel .m) (panel .k) (panel .counts) removal low
 
 module _ (panel : Record) (slots : List ℕ) where
-  -- m, k, the number of slots and the readers stay
+  -- m, k, the number of slots, the readers and the place in the circle stay
   pub step-keeps : Keeps panel slots (stepWriter panel slots)
   unfolding stepWriter writerRuns afterStep withWriter
   step-keeps =
       unless (Keeps panel slots) (stepRefusal (length slots) panel) (outcome panel slots) _
-      (λ answer. record { length-stays = refl; m-stays = refl; k-stays = refl; readers-stay = refl })
+      (λ answer. record { length-stays = refl; m-stays = refl; k-stays = refl; readers-stay = refl; place-stays = refl })
       (λ e.
       let leaves = update-leaves panel _ in
       record {
@@ -159,6 +159,7 @@ module _ (panel : Record) (slots : List ℕ) where
         m-stays = leaves .m-stays;
         k-stays = leaves .k-stays;
         readers-stay = leaves .readers-stay;
+        place-stays = leaves .place-stays;
       })
 
   pub at-work : stepRefusal (length slots) panel ≡ 0 → (inRange (length slots) panel ≡ true) × (isWriterIdle (panel .writer .work) ≡ false)

@@ -2,12 +2,13 @@
 use Prim.Native.Nat.{ℕ}
 use mathlib.Core.Bool.{Bool}
 use mathlib.Core.List.{List}
-use lib.ListN.{getD}
+use lib.ListN.{getD, set}
+use Rattle.record.specs.declared.Record.{Record}
 use Rattle.record.specs.declared.Station.{Station}
 use Rattle.record.specs.declared.WriterWork.{WriterWork}
 use Rattle.record.specs.declared.WriterWork.the-variants.{Idle, Putting, Changing, Removing}
-use Rattle.record.specs.Parts.{numberedPlace}
-use Rattle.answers.specs.Answers.{Answer, stepAnswer, paperStep, unlessRefused}
+use Rattle.record.specs.Parts.{unheardStation, withReach, withCounts, withWriter, withStations, numberedPlace}
+use Rattle.answers.specs.Answers.{Answer, stepAnswer, paperStep, Outcome, outcome, unlessRefused}
 use Rattle.effects.specs.declared.update.Update.{Update}
 use Rattle.effects.specs.declared.update.Update.the-variants.{Nothing}
 use Rattle.effects.specs.Memory.{slotStored, accessRead, slotsAfter}
@@ -94,3 +95,19 @@ stores m reach counts station after =
       slots = after .slots;
       answer = after .answer;
     }
+
+-- a record with these stored, the station's last command at this place; the slots and the answer
+abbrev pub storedIn : Record → ℕ → StepStores → Outcome
+storedIn panel place next =
+    outcome
+    (withWriter
+    (withStations (withCounts (withReach panel (next .reach)) (set (panel .counts) (next .at) (next .count))) (set (panel .stations) place (next .station)))
+    (next .work))
+    (next .slots) (next .answer)
+
+-- the writer's step on a record that has been judged: of one in range it is the writer's step
+unfoldable pub stepStored : Bool → Record → List ℕ → Outcome
+stepStored fits panel slots =
+    storedIn panel (stationAt (panel .writer .work))
+    (stores (panel .m) (panel .reach) (panel .counts) (getD (panel .stations) (stationAt (panel .writer .work)) unheardStation)
+    (stepWork fits (panel .m) (panel .k) (panel .reach) (panel .counts) (panel .writer .work) slots))

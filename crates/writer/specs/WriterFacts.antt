@@ -26,6 +26,7 @@ pub record Keeps (panel : Record) (slots : List ℕ) (after : Outcome) : Type 0 
   pub m-stays : after .panel .m ≡ panel .m
   pub k-stays : after .panel .k ≡ panel .k
   pub readers-stay : after .panel .readers ≡ panel .readers
+  pub place-stays : after .panel .place ≡ panel .place
 
 -- what a start leaves: unless it was refused, a record in range with a writer at work
 pub record Begun (now : Outcome) : Type 0 where

@@ -13,6 +13,7 @@ pub use starts::removal_started;
 pub use starts::start_change;
 pub use starts::start_put;
 pub use starts::start_removal;
+pub use step::step_judged;
 pub use step::step_writer;
 pub use work::SteppedWriter;
 pub use work::station_at;

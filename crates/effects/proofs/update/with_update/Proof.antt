@@ -37,15 +37,15 @@ returns c = cc
 
 returns-2 : tie.Need-returns-2
 unfolding updated
-returns-2 c = cc
+returns-2 c = rw (c .before .before .update .given .1) (c .with-reach .ensures)
 
 returns-3 : tie.Need-returns-3
 unfolding updated
-returns-3 c = cc
+returns-3 c = rw (c .before .before .update2 .given .1) (c .with-counted .ensures)
 
 returns-4 : tie.Need-returns-4
 unfolding updated
-returns-4 c = cc
+returns-4 c = rw (c .before .before .update3 .given .1) (c .with-uncounted .ensures)
 
 returns-5 : tie.Need-returns-5
 unfolding updated

@@ -1,0 +1,4 @@
+pub mod CircleLaws
+pub mod HighestDigit
+pub mod MarksLaws
+pub mod TurnLaws

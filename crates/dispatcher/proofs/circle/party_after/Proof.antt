@@ -1,0 +1,20 @@
+-- `dispatcher::circle::party_after` meets its contract, by its test.
+use borrow.Author.Needs.{needs}
+use borrow.Author.Tests.{lt-ltb, le-ltb}
+use Rattle.dispatcher.specs.Circle.{partyAfter}
+use Rattle.dispatcher.proofs.circle.party_after.Statement.{statement}
+use Rattle.dispatcher.proofs.circle.party_after.Tie as tie
+
+add-result : tie.Need-add-result
+add-result c = search needs
+
+returns : tie.Need-returns
+unfolding partyAfter
+returns c = rw (lt-ltb _ 16 (c .if1 .taken))
+
+returns-2 : tie.Need-returns-2
+unfolding partyAfter
+returns-2 c = rw (le-ltb _ 16 (c .if1 .left))
+
+pub party-after-spec : {M : Type 1} → statement M
+party-after-spec = tie.close (tie.spec add-result returns returns-2)

@@ -1,4 +1,4 @@
-// Any call of document 01 as a value, and `apply`, which carries it out. The claim about every list of such
+// Any call of document 01, and N1's turn, as a value, and `apply`, which carries it out. The claim about every list of such
 // calls stands in the crate `history`.
 pub mod outcomes;
 
@@ -8,8 +8,10 @@ ghost use Rattle.calls.specs.Calls.{applied};
 use crate::outcomes::entered;
 use crate::outcomes::started;
 use crate::outcomes::stepped;
+use crate::outcomes::turned;
 use answers::CallOutcome;
 use command::start_command;
+use dispatcher::turn;
 use reader_starts::start_lookup;
 use reader_starts::start_walk;
 use reader_step::step_reader;
@@ -29,6 +31,7 @@ pub enum Call {
     StartRemoval { point: u32 },
     StartCommand,
     StepWriter,
+    Turn,
 }
 
 // Carries out a call. A command takes the frame lent; the other calls do not look at it.
@@ -46,5 +49,6 @@ pub fn apply(panel: Record, slots: &mut [u64], call: Call, frame: &[u8]) -> Call
         Call::StartRemoval { point } => started(start_removal(panel, slots, point)),
         Call::StartCommand => entered(start_command(panel, slots, frame)),
         Call::StepWriter => stepped(step_writer(panel, slots)),
+        Call::Turn => turned(turn(panel, slots)),
     }
 }

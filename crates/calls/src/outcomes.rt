@@ -2,7 +2,7 @@
 ghost use Prim.Native.Nat.{ℕ};
 ghost use mathlib.Core.List.{List};
 ghost use mathlib.Core.Path.{_≡_};
-ghost use Rattle.answers.specs.Answers.{paperStart, paperEntry, paperStep, paperCall, outcome};
+ghost use Rattle.answers.specs.Answers.{paperStart, paperEntry, paperStep, paperTurn, paperCall, outcome};
 use answers::CallAnswer;
 use answers::CallOutcome;
 use answers::EntryAnswer;
@@ -11,6 +11,8 @@ use answers::StartAnswer;
 use answers::StartOutcome;
 use answers::StepAnswer;
 use answers::StepOutcome;
+use answers::TurnAnswer;
+use answers::TurnOutcome;
 
 fn of_start(answer: StartAnswer) -> CallAnswer
     ensures { λ r. ⌜ paperCall r ≡ paperStart answer ⌝ }
@@ -37,6 +39,18 @@ fn of_step(answer: StepAnswer) -> CallAnswer
     match answer {
         StepAnswer::Stepped(result) => CallAnswer::Stepped(result),
         StepAnswer::Refused(refusal) => CallAnswer::Refused(refusal),
+    }
+}
+
+fn of_turn(answer: TurnAnswer) -> CallAnswer
+    ensures { λ r. ⌜ paperCall r ≡ paperTurn answer ⌝ }
+{
+    match answer {
+        TurnAnswer::Served { party, result } => CallAnswer::Served {
+            party: party,
+            result: result,
+        },
+        TurnAnswer::Refused(refusal) => CallAnswer::Refused(refusal),
     }
 }
 
@@ -73,5 +87,17 @@ pub fn stepped(left: StepOutcome) -> CallOutcome
     CallOutcome {
         panel: panel,
         answer: of_step(answer),
+    }
+}
+
+// The same of a turn.
+pub fn turned(left: TurnOutcome) -> CallOutcome
+    ensures { λ r. ⌜ ((slots : List ℕ) → outcome (r .panel) slots (paperCall (r .answer)) ≡ outcome (left .panel) slots (paperTurn (left .answer))) ⌝ }
+{
+    let panel = left.panel;
+    let answer = left.answer;
+    CallOutcome {
+        panel: panel,
+        answer: of_turn(answer),
     }
 }

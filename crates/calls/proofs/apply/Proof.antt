@@ -79,6 +79,15 @@ step-writer-requires c κs = search needs
 stepped-requires-2 : tie.Need-stepped-requires-2
 stepped-requires-2 c κs = search needs
 
+enum-told-3 : tie.Need-enum-told-3
+enum-told-3 c = search needs
+
+turn-requires : tie.Need-turn-requires
+turn-requires c κs = search needs
+
+turned-requires : tie.Need-turned-requires
+turned-requires c κs = search needs
+
 same-length : tie.Need-same-length
 same-length c = search needs
 
@@ -167,6 +176,17 @@ returns-8 c =
     ∙ c .before .before .before .step-writer .ensures
     ∙ sym (ap (λ (call : Call). applied (a .panel) (now (a .slots)) call (now (a .frame))) (c .before .before .before .before .before .enum-told2 .given .1))
 
+same-length-9 : tie.Need-same-length-9
+same-length-9 c = search needs
+
+returns-9 : tie.Need-returns-9
+unfolding applied
+returns-9 c =
+    let a = c .before .before .before .before .before .before .before .before .before .args in
+    c .turned .ensures _
+    ∙ c .before .before .before .turn .ensures
+    ∙ sym (ap (λ (call : Call). applied (a .panel) (now (a .slots)) call (now (a .frame))) (c .before .before .before .before .before .enum-told3 .given .1))
+
 pub apply-spec : {M : Type 1} → statement M
 apply-spec =
     tie.close
@@ -195,6 +215,9 @@ apply-spec =
     enum-told-2
     step-writer-requires
     stepped-requires-2
+    enum-told-3
+    turn-requires
+    turned-requires
     same-length
     returns
     same-length-2
@@ -210,4 +233,6 @@ apply-spec =
     same-length-7
     returns-7
     same-length-8
-    returns-8)
+    returns-8
+    same-length-9
+    returns-9)

@@ -1,4 +1,4 @@
--- What is true of a world before the first call and after each, and that what the claim says of a world follows. The invariant speaks of the record and the
+-- What is true of a world before the first call and after each. The invariant speaks of the record and the
 -- definitions that the contracts cite: the table agrees with the plain list; the writer's work, the log and what is noted of it fit together, and so do each reader's;
 -- the stations fit the commands that the log has.
 use Prim.Native.Nat.{ℕ, zero, suc, _+_, _≤_}
@@ -24,13 +24,13 @@ use Rattle.slot_words.specs.Taken.{takenSlots}
 use Rattle.plain_list.specs.PlainList.{Rows, entryOf, nothing, largestIndex}
 use Rattle.plain_list.proofs.RowLaws.{present≢absent}
 use Rattle.plain_list.proofs.IndexLaws.{countIndex}
-use Rattle.plain_list.proofs.Agreement.{Agrees, shows}
+use Rattle.plain_list.proofs.Agreement.{Agrees}
 use Rattle.effects.proofs.EffectLaws.{writerLeft}
 use Rattle.effects.proofs.StepAgreement.{WorkOK, fedBy}
 use Rattle.writer.proofs.WriterAgreement.{operationOf}
 use Rattle.history.specs.Log.{Writing, writing, freshLog, lastGiven}
 use Rattle.history.specs.World.{WriterNotes, noWriterNotes, noReaderNotes, World, freshWorld}
-use Rattle.history.specs.Claim.{times, sents, stepBound, WorldRight}
+use Rattle.history.specs.Claim.{times, sents, stepBound}
 use Rattle.history.proofs.Readers.{ReaderOK, readingOf}
 use Rattle.history.proofs.Commands.{commandOf, heldBy, CommandsOK}
 
@@ -53,17 +53,8 @@ pub record Inv (m k : ℕ) (world : World) : Type 0 where
   pub reading : (n : ℕ) → world .log .readers n ≡ readingOf (workOf (world .panel) n)
   pub readers : (n : ℕ) → ReaderOK m k (world .rows) (world .readers n) (workOf (world .panel) n)
   pub commands : CommandsOK (world .panel .stations) (commandOf (world .panel .writer .work)) (world .acts) (world .log .ended)
-
--- what the claim says of a world
-pub world-right : (m k : ℕ) (world : World) → Inv m k world → WorldRight m k world
-world-right m k world inv =
-    record {
-      m-stays = inv .m-is;
-      k-stays = inv .k-is;
-      slots-show = shows m k (world .panel .reach) (world .panel .counts) (world .slots) (world .rows) (inv .agrees);
-      acts-once = inv .commands .acts-once;
-      ends-once = inv .commands .ends-once;
-    }
+  -- the place that the log has is the record's
+  pub place : world .log .place ≡ world .panel .place
 
 -- a writer without work, of which nothing is noted
 pub idle-noted : (m k reach : ℕ) (rows : Rows) → WriterOK m k reach rows (writing nothing []) noWriterNotes Idle
@@ -156,4 +147,5 @@ module _ (m k : ℕ) (m-low : 1 ≤ m) (m-high : m ≤ 4096) (k-low : 1 ≤ k) (
         reading = λ n. sym (ap readingOf (all-idle n));
         readers = λ n. subst (λ (w : ReaderWork). ReaderOK m k [] noReaderNotes w) (sym (all-idle n)) refl;
         commands = fresh-commands;
+        place = refl;
       }

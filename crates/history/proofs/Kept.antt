@@ -16,24 +16,24 @@ use Rattle.plain_list.proofs.RowLaws.{steady-same}
 use Rattle.writer.proofs.WriterAgreement.{operationOf}
 use Rattle.calls.specs.declared.Call.{Call}
 use Rattle.history.specs.Log.{Role, readerStart, readerStep, writerStart, writerStep, roleOf, writingAfter, readingAfter, endedBy, endedNow, logAfter, isIdle, isNothing}
-use Rattle.history.specs.World.{World, storesNow, endsNow, feedsNow, rowsNow, writerNow, witnessed, readerNow, noted}
+use Rattle.history.specs.World.{TurnNotes, World, storesNow, endsNow, feedsNow, rowsNow, writerNow, witnessed, readerNow, noted}
 use Rattle.history.specs.Claim.{refusalDue, CarriedOut, AnsweredBy, Right}
 use Rattle.history.proofs.Readers.{ReaderOK, readingOf, reader-on}
 use Rattle.history.proofs.Invariant.{Inv}
 
 -- what a call must come to
 pub record Kept (world : World) (call : Call) (frame : List ℕ) (after : Outcome) : Type 0 where
-  pub inv : Inv (world .panel .m) (world .panel .k) (noted world (roleOf call frame) after)
-  pub right : Right (world .panel .m) (world .panel .k) world (noted world (roleOf call frame) after) call frame (after .answer)
+  pub inv : Inv (world .panel .m) (world .panel .k) (noted world (roleOf call frame (after .answer)) after)
+  pub right : Right (world .panel .m) (world .panel .k) world (noted world (roleOf call frame (after .answer)) after) call frame (after .answer)
 
 -- and where it is carried out
 pub record Done (world : World) (call : Call) (frame : List ℕ) (after : Outcome) : Type 0 where
-  pub inv : Inv (world .panel .m) (world .panel .k) (noted world (roleOf call frame) after)
-  pub carried-out : CarriedOut (world .panel .m) (world .panel .k) world (noted world (roleOf call frame) after) call frame (after .answer)
+  pub inv : Inv (world .panel .m) (world .panel .k) (noted world (roleOf call frame (after .answer)) after)
+  pub carried-out : CarriedOut (world .panel .m) (world .panel .k) world (noted world (roleOf call frame (after .answer)) after) call frame (after .answer)
 
--- nothing has happened, but the readers have seen a moment more
-abbrev pub waited : World → World
-waited world =
+-- nothing has happened, but the readers have seen a moment more; what is noted of the turns is no part of the invariant
+abbrev pub unchanged : World → (ℕ → TurnNotes) → World
+unchanged world turns =
     record {
       panel = world .panel;
       slots = world .slots;
@@ -41,6 +41,7 @@ waited world =
       rows = world .rows;
       writer = world .writer;
       readers = λ (n : ℕ). witnessed (world .readers n) (world .rows);
+      turns = turns;
       acts = world .acts;
     }
 
@@ -79,8 +80,8 @@ module _ (world : World) (inv : Inv (world .panel .m) (world .panel .k) world) w
   pub still : (n : ℕ) → ReaderOK m k (world .rows) (witnessed (world .readers n) (world .rows)) (workOf panel n)
   still n = reader-on m k (world .rows) (world .rows) (world .readers n) (steady-same (world .rows)) (workOf panel n) (inv .readers n)
 
-  pub waits : Inv m k (waited world)
-  waits =
+  pub waits : (turns : ℕ → TurnNotes) → Inv m k (unchanged world turns)
+  waits turns =
       record {
         m-is = refl;
         k-is = refl;
@@ -92,22 +93,23 @@ module _ (world : World) (inv : Inv (world .panel .m) (world .panel .k) world) w
         reading = inv .reading;
         readers = still;
         commands = inv .commands;
+        place = inv .place;
       }
 
   refused-waits : (role : Role) (n : ℕ) → Inv m k (noted world role (outcome panel slots (refused n)))
   unfolding noted rowsNow feedsNow storesNow endsNow writerNow readerNow logAfter writingAfter readingAfter endedBy endedNow either both
-  refused-waits (readerStart reader begun) n = waits
-  refused-waits (readerStep reader) n = waits
-  refused-waits (writerStart begun) n = waits
-  refused-waits writerStep n = waits
+  refused-waits (readerStart reader begun) n = waits _
+  refused-waits (readerStep reader) n = waits _
+  refused-waits (writerStart begun) n = waits _
+  refused-waits writerStep n = waits _
 
   -- a refused call
   pub refused-kept : (call : Call) (frame : List ℕ) (n : ℕ) → refusalDue (world .log) call frame ≡ suc n → Kept world call frame (outcome panel slots (refused (suc n)))
   unfolding noted
   refused-kept call frame n due =
       record {
-        inv = refused-waits (roleOf call frame) (suc n);
-        right = subst (λ (d : ℕ). AnsweredBy d m k world (noted world (roleOf call frame) (outcome panel slots (refused (suc n)))) call frame (refused (suc n))) (sym due)
+        inv = refused-waits (roleOf call frame (refused (suc n))) (suc n);
+        right = subst (λ (d : ℕ). AnsweredBy d m k world (noted world (roleOf call frame (refused (suc n))) (outcome panel slots (refused (suc n)))) call frame (refused (suc n))) (sym due)
             (refl, record { record-stays = refl; slots-stay = refl });
       }
 
@@ -116,7 +118,7 @@ module _ (world : World) (inv : Inv (world .panel .m) (world .panel .k) world) w
   done-kept call frame after due done =
       record {
         inv = done .inv;
-        right = subst (λ (d : ℕ). AnsweredBy d m k world (noted world (roleOf call frame) after) call frame (after .answer)) (sym due) (done .carried-out);
+        right = subst (λ (d : ℕ). AnsweredBy d m k world (noted world (roleOf call frame (after .answer)) after) call frame (after .answer)) (sym due) (done .carried-out);
       }
 
   -- a call whose refusal is the one due

@@ -5,4 +5,7 @@ pub mod Kept
 pub mod ReaderCalls
 pub mod WriterStarts
 pub mod WriterSteps
+pub mod TurnCalls
+pub mod Turns
+pub mod InTurn
 pub mod Theorem

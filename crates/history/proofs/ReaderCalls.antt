@@ -1,7 +1,7 @@
 -- The calls of readers keep the invariant and are answered right.
 use Prim.Native.Nat.{ℕ, _≤_, _<_}
 use mathlib.Core.Bool.{Bool, true, false, cond, not, false≢true}
-use mathlib.Core.Path.{_≡_, refl, sym, subst, _∙_}
+use mathlib.Core.Path.{_≡_, refl, sym, ap, subst, _∙_}
 use mathlib.Core.List.{List}
 use native.Mathlib.Omega.{arith}
 use borrow.Author.Tests.{eqb-true, eqb-false, eq-eqb, ltb-false, lt-ltb, not-false}
@@ -29,8 +29,8 @@ use Rattle.reader_step.specs.Reader.{readerAccess, ReaderEffect, readerAdvance,
 use Rattle.reader_starts.specs.Starts.{lookupWorkRefusal, lookupRefusal, walkWorkRefusal, walkRefusal, startReader, startLookup, startWalk}
 use Rattle.reader_starts.proofs.ReaderLaws.{advances}
 use Rattle.calls.specs.declared.Call.the-variants.{StartLookup, StartWalk, StepReader}
-use Rattle.history.specs.Log.{Reading, idle, lookingUp, walking, readerStart, roleOf, writingAfter, readingAfter, endedNow, logAfter}
-use Rattle.history.specs.World.{ReaderNotes, noReaderNotes, World, storesNow, endsNow, feedsNow, rowsNow, writerNow, steppedReader, witnessed, readerNow, noted}
+use Rattle.history.specs.Log.{Reading, idle, lookingUp, walking, readerStart, roleOf, writingAfter, readingAfter, endedNow, placeMoved, logAfter}
+use Rattle.history.specs.World.{ReaderNotes, noReaderNotes, TurnNotes, World, storesNow, endsNow, feedsNow, rowsNow, writerNow, steppedReader, witnessed, readerNow, noted}
 use Rattle.history.specs.Claim.{refusalDue, ReaderRight}
 use Rattle.history.proofs.Readers.{ReaderOK, readingOf, StepRight, reader-right}
 use Rattle.history.proofs.Invariant.{Inv}
@@ -68,9 +68,9 @@ module _ (world : World) (inv : Inv (world .panel .m) (world .panel .k) world) w
   inside reader low = omega (arith, inv .all-readers)
 
   -- a reader's work replaced in its place, with what the log and the notes then say of the readers
-  replaced-inv : (reader : ℕ) (work : ReaderWork) (readings : ℕ → Reading) (notes : ℕ → ReaderNotes) → inRange (length slots) (withWork panel reader work) ≡ true → ((n : ℕ) → readings n ≡ readingOf (workOf (withWork panel reader work) n)) → ((n : ℕ) → ReaderOK m k (world .rows) (notes n) (workOf (withWork panel reader work) n)) → Inv m k (record { panel = withWork panel reader work; slots = slots; log = record { writer = world .log .writer; readers = readings; ended = world .log .ended }; rows = world .rows; writer = world .writer; readers = notes; acts = world .acts })
+  replaced-inv : (reader : ℕ) (work : ReaderWork) (readings : ℕ → Reading) (notes : ℕ → ReaderNotes) (turns : ℕ → TurnNotes) (place : ℕ) → place ≡ panel .place → inRange (length slots) (withWork panel reader work) ≡ true → ((n : ℕ) → readings n ≡ readingOf (workOf (withWork panel reader work) n)) → ((n : ℕ) → ReaderOK m k (world .rows) (notes n) (workOf (withWork panel reader work) n)) → Inv m k (record { panel = withWork panel reader work; slots = slots; log = record { writer = world .log .writer; readers = readings; ended = world .log .ended; place = place }; rows = world .rows; writer = world .writer; readers = notes; turns = turns; acts = world .acts })
   unfolding withWork withReaders
-  replaced-inv reader work readings notes fits reading noted-ok =
+  replaced-inv reader work readings notes turns place at fits reading noted-ok =
       record {
         m-is = refl;
         k-is = refl;
@@ -82,13 +82,14 @@ module _ (world : World) (inv : Inv (world .panel .m) (world .panel .k) world) w
         reading = reading;
         readers = noted-ok;
         commands = inv .commands;
+        place = at;
       }
 
   -- a start: of an idle reader nothing is noted, and so of its work before the first step
   start-inv : (reader : ℕ) (begun : Reading) (work : ReaderWork) → reader ≤ 15 → isReaderIdle (workOf panel reader) ≡ true → workInRange m k work ≡ true → begun ≡ readingOf work → ReaderOK m k (world .rows) noReaderNotes work → Inv m k (noted world (readerStart reader begun) (outcome (withWork panel reader work) slots started))
   unfolding noted rowsNow feedsNow storesNow endsNow writerNow readerNow logAfter writingAfter readingAfter endedNow either both
   start-inv reader begun work low free ranged same own =
-      replaced-inv reader work _ _ (with-work-in-range (length slots) panel (inv .fits) reader work ranged)
+      replaced-inv reader work _ _ _ _ (inv .place) (with-work-in-range (length slots) panel (inv .fits) reader work ranged)
       (each-reader (λ (n : ℕ) (w : ReaderWork). cond (eqb reader n) begun (world .log .readers n) ≡ readingOf w) panel reader work (inside reader low) (rw (eq-eqb reader reader refl) same)
       (λ n e. rw e (inv .reading n)))
       (each-reader (λ (n : ℕ) (w : ReaderWork). ReaderOK m k (world .rows) (witnessed (world .readers n) (world .rows)) w) panel reader work (inside reader low) (subst (λ (notes : ReaderNotes). ReaderOK m k (world .rows) notes work) (sym nothing-noted) own)
@@ -190,7 +191,7 @@ module _ (world : World) (inv : Inv (world .panel .m) (world .panel .k) world) w
     run-done frame =
         record {
           inv =
-              replaced-inv reader (effect .work) (readings-by (hasEnded (effect .answer))) (notes-by (isRefused (effect .answer)) (hasEnded (effect .answer))) effect-fits
+              replaced-inv reader (effect .work) (readings-by (hasEnded (effect .answer))) (notes-by (isRefused (effect .answer)) (hasEnded (effect .answer))) _ _ (ap (placeMoved (world .log .place)) (right-step .direct) ∙ inv .place) effect-fits
               (reading-after (hasEnded (effect .answer)) (right-step .reading))
               (notes-after (isRefused (effect .answer)) (right-step .carried));
           carried-out =

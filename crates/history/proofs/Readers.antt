@@ -32,7 +32,7 @@ use Rattle.search.proofs.SearchLaws.{searchLeft, some-left, searchedLeft, OneSt
 use Rattle.search.proofs.TrailLaws.{Trail, Knows, search-knows, trail-after}
 use Rattle.record.specs.Idle.{isReaderIdle}
 use Rattle.reader_step.specs.Reader.{readerAccess, ReaderEffect, lookupEnding, lookupEffect, lookupAdvance, walkAdvance, readerAdvance}
-use Rattle.history.specs.Log.{Reading, idle, lookingUp, walking}
+use Rattle.history.specs.Log.{Reading, idle, lookingUp, walking, servedBy}
 use Rattle.history.specs.World.{ReaderNotes, noReaderNotes, wordGiven, steppedReader, witnessed}
 use Rattle.history.specs.Claim.{WordRight, reports, ReportedOnce, ReaderRight, lookup-underway, lookup-ended, walk-underway, walk-ended}
 
@@ -83,7 +83,7 @@ module _ (notes : ReaderNotes) (rows : Rows) where
   unfolding witnessed
   moment-more h = rw (ne-eqb (notes .steps) 0 (omega arith))
 
-  steps-stay : witnessed notes rows .steps ≡ notes .steps
+  pub steps-stay : witnessed notes rows .steps ≡ notes .steps
   unfolding witnessed
   steps-stay = go (eqb (notes .steps) 0)
     where
@@ -153,6 +153,8 @@ pub record StepRight (m k : ℕ) (slots : List ℕ) (rows : Rows) (notes : Reade
   pub right : ReaderRight m k slots rows (steppedReader notes (effect .answer) rows) (readingOf work) (effect .answer)
   pub reading : cond (hasEnded (effect .answer)) idle (readingOf work) ≡ readingOf (effect .work)
   pub carried : isRefused (effect .answer) ≡ false
+  -- it is no turn
+  pub direct : servedBy (effect .answer) ≡ []
 
 module _ (m k reach : ℕ) (counts slots : List ℕ) (rows : Rows) (agrees : Agrees m k reach counts slots rows) (notes : ReaderNotes) where
   -- a lookup's step
@@ -188,6 +190,7 @@ module _ (m k reach : ℕ) (counts slots : List ℕ) (rows : Rows) (agrees : Agr
           right = lookup-underway (omega (arith, ok .left, one .less, some-left k s));
           reading = refl;
           carried = refl;
+          direct = refl;
         }
     effect-right (Answered (Found place)) known one =
         record {
@@ -200,6 +203,7 @@ module _ (m k reach : ℕ) (counts slots : List ℕ) (rows : Rows) (agrees : Agr
               });
           reading = refl;
           carried = refl;
+          direct = refl;
         }
     effect-right (Answered Unknown) known one =
         record {
@@ -212,6 +216,7 @@ module _ (m k reach : ℕ) (counts slots : List ℕ) (rows : Rows) (agrees : Agr
               });
           reading = refl;
           carried = refl;
+          direct = refl;
         }
 
     pub lookup-right : StepRight m k slots rows notes lookup (lookupEffect point (searchAdvance reach point search word))
@@ -322,6 +327,7 @@ module _ (m k reach : ℕ) (counts slots : List ℕ) (rows : Rows) (agrees : Agr
           right = walk-underway read report-at (omega (arith, ok .steps, ltb-true (next + 1) m more));
           reading = refl;
           carried = refl;
+          direct = refl;
         })
         (λ last.
         let past = ltb-false (next + 1) m last in
@@ -330,6 +336,7 @@ module _ (m k reach : ℕ) (counts slots : List ℕ) (rows : Rows) (agrees : Agr
           right = walk-ended read report-at (omega (arith, ok .steps)) (once (omega arith));
           reading = refl;
           carried = refl;
+          direct = refl;
         })
 
   -- a step of a reader at work

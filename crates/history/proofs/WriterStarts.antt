@@ -27,7 +27,7 @@ use Rattle.work_ranges.specs.WorkRanges.{searchInRange, putStageInRange, putInR
 use Rattle.record_ranges.specs.Ranges.{inRange}
 use Rattle.record_ranges.proofs.Laws.{with-writer-in-range}
 use Rattle.answers.specs.Answers.{started, givenAgain, refused, storedAnswer, outcome, unlessRefused}
-use Rattle.plain_list.specs.PlainList.{nothing, put, change, removal, Each}
+use Rattle.plain_list.specs.PlainList.{put, change, removal, Each}
 use Rattle.plain_list.proofs.Agreement.{Tight}
 use Rattle.search.proofs.SearchLaws.{searchLeft}
 use Rattle.effects.proofs.EffectLaws.{putSearchLeft, putLeft, changeLeft, removalLeft, writerLeft}
@@ -41,7 +41,7 @@ use Rattle.command.proofs.CommandLaws.{Valid, frame-valid, change-in-range}
 use Rattle.calls.specs.declared.Call.the-variants.{StartPut, StartChange, StartRemoval, StartCommand}
 use Rattle.history.specs.Log.{Writing, writing, writerStart, asChange, roleOf, Given, writingAfter, readingAfter, endedNow, logAfter}
 use Rattle.history.specs.World.{World, storesNow, endsNow, feedsNow, rowsNow, writerNow, readerNow, noted}
-use Rattle.history.specs.Claim.{operationRefusal, lastEnded, turnRefusal, refusalDue, CommandRight, stepBound}
+use Rattle.history.specs.Claim.{operationRefusal, lastEnded, numberRefusal, refusalDue, CommandRight, stepBound}
 use Rattle.history.proofs.Commands.{commandOf, IsNext, heldBy, with-command}
 use Rattle.history.proofs.Invariant.{WriterOK, Inv}
 use Rattle.history.proofs.Kept.{Kept, writer-is-idle, still, waits, refused-kept, done-kept, judged}
@@ -106,6 +106,7 @@ module _ (world : World) (inv : Inv (world .panel .m) (world .panel .k) world) w
         reading = inv .reading;
         readers = still world inv;
         commands = with-command (panel .stations) (commandOf (panel .writer .work)) (commandOf work) (world .acts) (world .log .ended) (inv .commands) (fresh .in-turn);
+        place = inv .place;
       }
 
   -- "put, change, remove 1, 2, 4"
@@ -185,7 +186,7 @@ module _ (world : World) (inv : Inv (world .panel .m) (world .panel .k) world) w
     module _ (taken : frameRefusal bytes ≡ 0) where
       -- what is due to the command, beside its station's last, by the tests in document 01's order
       due-by : (equal same next idle : Bool) → eqb (sent .number) (last .number) ≡ equal → both (eqb (sent .point) (last .point)) (eqb (sent .action) (last .action)) ≡ same → eqb (sent .number) (last .number + 1) ≡ next → isWriterIdle (panel .writer .work) ≡ idle → refusalDue (world .log) StartCommand bytes ≡ cond equal (refuseIf (not same) 12 0) (refuseIf (not next) 11 (refuseIf (not idle) 4 0))
-      unfolding refusalDue turnRefusal orElse
+      unfolding refusalDue numberRefusal orElse
       due-by equal same next idle e f g h = rw (taken, last-is, e, f, g, sym (writer-is-idle world inv) ∙ h)
 
       valid : Valid sent
@@ -211,7 +212,7 @@ module _ (world : World) (inv : Inv (world .panel .m) (world .panel .k) world) w
           done-kept world inv StartCommand bytes _ (due-by false _ true true other refl next e)
           (record {
             inv = starts next e;
-            carried-out = subst (λ (equal : Bool). CommandRight equal (lastEnded (world .log) sent .answer) world (noted world (roleOf StartCommand bytes) (outcome (withWriter panel (commandedChange sent)) slots started)) started) (sym (number-is false other)) refl;
+            carried-out = subst (λ (equal : Bool). CommandRight equal (lastEnded (world .log) sent .answer) world (noted world (roleOf StartCommand bytes started) (outcome (withWriter panel (commandedChange sent)) slots started)) started) (sym (number-is false other)) refl;
           })
       by-idle other next false e = refused-kept world inv StartCommand bytes 3 (due-by false _ true false other refl next e)
 
@@ -221,9 +222,9 @@ module _ (world : World) (inv : Inv (world .panel .m) (world .panel .k) world) w
       by-next other false e = refused-kept world inv StartCommand bytes 10 (due-by false _ false _ other refl e refl)
 
       -- the stored answer given again
-      again-inv : Inv m k (noted world (roleOf StartCommand bytes) (outcome panel slots (givenAgain (storedAnswer (last .answer)))))
+      again-inv : Inv m k (noted world (roleOf StartCommand bytes (givenAgain (storedAnswer (last .answer)))) (outcome panel slots (givenAgain (storedAnswer (last .answer)))))
       unfolding roleOf noted rowsNow feedsNow storesNow endsNow writerNow readerNow logAfter writingAfter readingAfter endedNow either both
-      again-inv = waits world inv
+      again-inv = waits world inv _
 
       by-content : eqb (sent .number) (last .number) ≡ true → (same : Bool) → both (eqb (sent .point) (last .point)) (eqb (sent .action) (last .action)) ≡ same → Kept world StartCommand bytes (cond same (outcome panel slots (givenAgain (storedAnswer (last .answer)))) (outcome panel slots (refused 12)))
       unfolding refuseIf noted
@@ -232,7 +233,7 @@ module _ (world : World) (inv : Inv (world .panel .m) (world .panel .k) world) w
           (record {
             inv = again-inv;
             carried-out =
-                subst (λ (b : Bool). CommandRight b (lastEnded (world .log) sent .answer) world (noted world (roleOf StartCommand bytes) (outcome panel slots (givenAgain (storedAnswer (last .answer))))) (givenAgain (storedAnswer (last .answer)))) (sym (number-is true equal))
+                subst (λ (b : Bool). CommandRight b (lastEnded (world .log) sent .answer) world (noted world (roleOf StartCommand bytes (givenAgain (storedAnswer (last .answer)))) (outcome panel slots (givenAgain (storedAnswer (last .answer))))) (givenAgain (storedAnswer (last .answer)))) (sym (number-is true equal))
                 (ap (λ (given : Given). givenAgain (given .answer)) (sym last-is), record { record-stays = refl; slots-stay = refl });
           })
       by-content equal false e = refused-kept world inv StartCommand bytes 11 (due-by true false _ _ equal e refl refl)

@@ -34,7 +34,7 @@ use Rattle.writer.proofs.WriterAgreement.{operationOf, operation-begun, writer-
 use Rattle.command.specs.declared.Sent.{Sent}
 use Rattle.calls.specs.declared.Call.the-variants.{StepWriter}
 use Rattle.history.specs.Log.{Writing, writing, writerStep, roleOf, Given, Log, writingAfter, readingAfter, givenTo, endedBy, endedNow, logAfter}
-use Rattle.history.specs.World.{WriterNotes, noWriterNotes, World, storesNow, endsNow, feedsNow, toldNow, rowsNow, steppedWriter, writerStepped, writerNow, witnessed, readerNow, noted}
+use Rattle.history.specs.World.{WriterNotes, noWriterNotes, TurnNotes, World, storesNow, endsNow, feedsNow, toldNow, rowsNow, steppedWriter, writerStepped, writerNow, witnessed, readerNow, turnsNow, noted}
 use Rattle.history.specs.Claim.{refusalDue, stepBound, WriterRight, writer-underway, writer-ended}
 use Rattle.history.proofs.Readers.{ReaderOK, readingOf, reader-on}
 use Rattle.history.proofs.Commands.{sentBy, alteredBy, commandOf, command-begun, no-command-of, fed-no-command, fed-not-command, CommandsOK, with-command, recorded}
@@ -45,7 +45,7 @@ use Rattle.history.proofs.Kept.{Kept, Done, writer-is-idle, judged}
 abbrev steppedLog : Log → Progress → Log
 steppedLog log continues = log
 steppedLog log (finishes ending) =
-    record { writer = writing nothing []; readers = log .readers; ended = givenTo (log .writer .command) ending ++ log .ended }
+    record { writer = writing nothing []; readers = log .readers; ended = givenTo (log .writer .command) ending ++ log .ended; place = log .place }
 
 -- the notes on the writer after it
 abbrev closed : WriterNotes → Progress → WriterNotes
@@ -62,6 +62,7 @@ steppedWorld world panel slots progress feeding storing =
       rows = cond feeding (toldNow world .rows) (world .rows);
       writer = closed (steppedWriter (world .writer) feeding (toldNow world)) progress;
       readers = λ (n : ℕ). witnessed (world .readers n) (cond feeding (toldNow world .rows) (world .rows));
+      turns = λ (party : ℕ). turnsNow (stepAnswer progress) writerStep party (world .turns party);
       acts = cond storing (world .log .writer .command ++ world .acts) (world .acts);
     }
 
@@ -134,9 +135,9 @@ module _ (world : World) (inv : Inv (world .panel .m) (world .panel .k) world) w
     work-stays n = ap (λ (l : List Reader). getD l n idleReader .work) (sym (leaves .readers-stay))
 
     -- the world after the step, where the plain list is then this
-    stepped-inv : (rows : Rows) (now : Writing) (new : WriterNotes) (acts : List Sent) (ended : List Given) → Steady (world .rows) rows → After panel slots access effect rows → WriterOK m k (after .reach) rows now new (effect .work) → CommandsOK (after .stations) (commandOf (effect .work)) acts ended → Inv m k (record { panel = withWriter after (effect .work); slots = slotsAfter slots access; log = record { writer = now; readers = world .log .readers; ended = ended }; rows = rows; writer = new; readers = λ (n : ℕ). witnessed (world .readers n) rows; acts = acts })
+    stepped-inv : (rows : Rows) (now : Writing) (new : WriterNotes) (turns : ℕ → TurnNotes) (acts : List Sent) (ended : List Given) → Steady (world .rows) rows → After panel slots access effect rows → WriterOK m k (after .reach) rows now new (effect .work) → CommandsOK (after .stations) (commandOf (effect .work)) acts ended → Inv m k (record { panel = withWriter after (effect .work); slots = slotsAfter slots access; log = record { writer = now; readers = world .log .readers; ended = ended; place = world .log .place }; rows = rows; writer = new; readers = λ (n : ℕ). witnessed (world .readers n) rows; turns = turns; acts = acts })
     unfolding writerRuns afterStep withWriter
-    stepped-inv rows now new acts ended steady then writes commands =
+    stepped-inv rows now new turns acts ended steady then writes commands =
         record {
           m-is = leaves .m-stays;
           k-is = leaves .k-stays;
@@ -148,6 +149,7 @@ module _ (world : World) (inv : Inv (world .panel .m) (world .panel .k) world) w
           reading = λ n. inv .reading n ∙ ap readingOf (work-stays n);
           readers = λ n. subst (λ (w : _). ReaderOK m k rows (witnessed (world .readers n) rows) w) (work-stays n) (reader-on m k (world .rows) rows (world .readers n) steady (workOf panel n) (inv .readers n));
           commands = commands;
+          place = inv .place ∙ sym (leaves .place-stays);
         }
 
     -- the operation and the command stay the same while the work goes on
@@ -227,7 +229,7 @@ module _ (world : World) (inv : Inv (world .panel .m) (world .panel .k) world) w
     unfolding steppedWriter
     on-done stores unfed still-unfed same on goes stay then =
         carried-out continues goes false false stores (feeds-not-yet stores)
-        (stepped-inv (world .rows) underway (steppedWriter notes false (toldNow world)) (world .acts) (world .log .ended) (steady-same (world .rows)) then
+        (stepped-inv (world .rows) underway (steppedWriter notes false (toldNow world)) _ (world .acts) (world .log .ended) (steady-same (world .rows)) then
         (record {
           operation = same-operation same;
           command = noted-ok .command ∙ same-command same;
@@ -249,7 +251,7 @@ module _ (world : World) (inv : Inv (world .panel .m) (world .panel .k) world) w
     empties-done stores unfed fed same on goes tells steady stay then =
         let none = same-command same ∙ fed-no-command (effect .work) fed in
         carried-out continues goes true true stores (feeds-storing stores)
-        (stepped-inv (toldNow world .rows) underway (steppedWriter notes true (toldNow world)) (underway .command ++ world .acts) (world .log .ended) steady then
+        (stepped-inv (toldNow world .rows) underway (steppedWriter notes true (toldNow world)) _ (underway .command ++ world .acts) (world .log .ended) steady then
         (record {
           operation = same-operation same;
           command = noted-ok .command ∙ same-command same;
@@ -279,7 +281,7 @@ module _ (world : World) (inv : Inv (world .panel .m) (world .panel .k) world) w
     unfolding steppedWriter
     lowers-done stores fed idle over stay then =
         carried-out (finishes (removed (largestIndex m k (world .rows)))) over false false stores (feeds-no-more _ stores (ne-eqb (notes .feeds) 0 (λ z. omega (arith, noted-ok .feeds))))
-        (stepped-inv (world .rows) (writing nothing []) noWriterNotes (world .acts) _ (steady-same (world .rows)) then
+        (stepped-inv (world .rows) (writing nothing []) noWriterNotes _ (world .acts) _ (steady-same (world .rows)) then
         (ended-noted (world .rows) idle)
         (ended-commands false (removed (largestIndex m k (world .rows))) idle work refl (no-command (fed-not-command work fed) stay)))
         (writer-ended _ (record { as-told = sym (noted-ok .told fed); fed-once = noted-ok .feeds ∙ fed; in-time = in-time }))
@@ -288,7 +290,7 @@ module _ (world : World) (inv : Inv (world .panel .m) (world .panel .k) world) w
     unfolding steppedWriter
     ends-done stores storing unfed idle over steady record-kept then =
         carried-out (finishes (toldNow world .answer)) over stores true storing (feeds-at-last _ (none-fed unfed))
-        (stepped-inv (toldNow world .rows) (writing nothing []) noWriterNotes _ _ steady then
+        (stepped-inv (toldNow world .rows) (writing nothing []) noWriterNotes _ _ _ steady then
         (ended-noted (toldNow world .rows) idle) (ended-commands stores (toldNow world .answer) idle work refl record-kept))
         (writer-ended (toldNow world .answer) (record { as-told = refl; fed-once = once-fed unfed; in-time = in-time }))
 

@@ -11,14 +11,15 @@ use Rattle.conditions.specs.Conditions.{both}
 use Rattle.refusal.specs.Judging.{refuseIf, orElse}
 use Rattle.slot_words.specs.Points.{validPoint}
 use Rattle.slot_words.specs.Word.{pointOf, valueOf}
-use Rattle.answers.specs.Answers.{Ending, Answer, started, underway, ended, walked, walkedLast, givenAgain, refused}
+use Rattle.answers.specs.Answers.{Ending, Answer, started, underway, ended, walked, walkedLast, served, givenAgain, refused, isRefused}
 use Rattle.plain_list.specs.PlainList.{Rows, absent, present, entryOf, lookupRow, Operation, nothing, put, change, removal, Each, Some, Shows}
 use Rattle.command.specs.declared.Sent.{Sent}
 use Rattle.command.specs.Command.{sentIn, frameRefusal}
+use Rattle.dispatcher.specs.Circle.{nobody}
 use Rattle.calls.specs.declared.Call.{Call}
-use Rattle.calls.specs.declared.Call.the-variants.{StartLookup, StartWalk, StepReader, StartPut, StartChange, StartRemoval, StartCommand, StepWriter}
-use Rattle.history.specs.Log.{Request, Reading, lookingUp, walking, Given, Log, isIdle, isNothing, lastGiven}
-use Rattle.history.specs.World.{WriterNotes, ReaderNotes, World, steppedReader, writerStepped, outcomeOf, next, freshWorld}
+use Rattle.calls.specs.declared.Call.the-variants.{StartLookup, StartWalk, StepReader, StartPut, StartChange, StartRemoval, StartCommand, StepWriter, Turn}
+use Rattle.history.specs.Log.{Request, Reading, idle, lookingUp, walking, Role, readerStart, readerStep, writerStart, writerStep, Given, Log, isIdle, isNothing, hasWork, dueIn, roleOf, lastGiven}
+use Rattle.history.specs.World.{WriterNotes, ReaderNotes, World, stepsOf, steppedReader, writerStepped, outcomeOf, next, freshWorld}
 
 -- "put, change, remove 1, 2, 4"
 unfoldable pub operationRefusal : Log → ℕ → ℕ
@@ -29,13 +30,13 @@ unfoldable pub lastEnded : Log → Sent → Given
 lastEnded log sent = lastGiven (sent .station) (log .ended)
 
 -- "11 or 12 or stored answer, 4": a command beside its station's last one
-unfoldable pub turnRefusal : Log → Sent → Sent → ℕ
-turnRefusal log sent last =
+unfoldable pub numberRefusal : Log → Sent → Sent → ℕ
+numberRefusal log sent last =
     cond (eqb (sent .number) (last .number))
     (refuseIf (not (both (eqb (sent .point) (last .point)) (eqb (sent .action) (last .action)))) 12 0)
     (refuseIf (not (eqb (sent .number) (last .number + 1))) 11 (refuseIf (not (isNothing (log .writer .operation))) 4 0))
 
--- the refusal that a call gets, or 0, in the order that document 01 states; 1 is for none of them
+-- the refusal that a call gets, or 0, in the order that document 01 states, and request N1 for a turn; 1 is for none of them
 unfoldable pub refusalDue : Log → Call → List ℕ → ℕ
 refusalDue log (StartLookup reader point) frame =
     refuseIf (ltb 15 reader) 3 (refuseIf (not (validPoint point)) 2 (refuseIf (not (isIdle (log .readers reader))) 4 0))
@@ -44,8 +45,9 @@ refusalDue log (StepReader reader) frame = refuseIf (ltb 15 reader) 3 (refuseIf 
 refusalDue log (StartPut point value) frame = operationRefusal log point
 refusalDue log (StartChange point keep flip) frame = operationRefusal log point
 refusalDue log (StartRemoval point) frame = operationRefusal log point
-refusalDue log StartCommand frame = orElse (frameRefusal frame) (turnRefusal log (sentIn frame) (lastEnded log (sentIn frame) .sent))
+refusalDue log StartCommand frame = orElse (frameRefusal frame) (numberRefusal log (sentIn frame) (lastEnded log (sentIn frame) .sent))
 refusalDue log StepWriter frame = refuseIf (isNothing (log .writer .operation)) 5 0
+refusalDue log Turn frame = refuseIf (eqb (dueIn log) nobody) 5 0
 
 -- "All leave slots, buffers and record untouched"
 pub record Untouched (before after : World) : Type 0 where
@@ -101,18 +103,28 @@ pub data WriterRight (k : ℕ) (operation : Operation) (notes : WriterNotes) : A
   writer-underway : notes .steps < stepBound k operation → WriterRight k operation notes underway
   writer-ended : (ending : Ending) → Ended k operation notes ending → WriterRight k operation notes (ended ending)
 
--- what a call that is not refused comes to; a step is judged with the notes that count it
+-- a party's step is judged with the notes that count it
+abbrev pub PartyRight : ℕ → ℕ → World → World → ℕ → Answer → Type 0
+PartyRight m k before after zero answer = WriterRight k (before .log .writer .operation) (writerStepped before answer) answer
+PartyRight m k before after (suc reader) answer =
+    ReaderRight m k (before .slots) (after .rows) (steppedReader (before .readers reader) answer (after .rows)) (before .log .readers reader) answer
+
+-- "it hands back the party served, with 6 and 7 too, and what its step gave": the party whose turn it is, and an answer that is right for its step
+pub data TurnRight (m k : ℕ) (before after : World) : Answer → Type 0 where
+  serves : (answer : Answer) → PartyRight m k before after (dueIn (before .log)) answer → TurnRight m k before after (served (dueIn (before .log)) answer)
+
+-- what a call that is not refused comes to
 abbrev pub CarriedOut : ℕ → ℕ → World → World → Call → List ℕ → Answer → Type 0
 CarriedOut m k before after (StartLookup reader point) frame answer = answer ≡ started
 CarriedOut m k before after (StartWalk reader) frame answer = answer ≡ started
-CarriedOut m k before after (StepReader reader) frame answer =
-    ReaderRight m k (before .slots) (after .rows) (steppedReader (before .readers reader) answer (after .rows)) (before .log .readers reader) answer
+CarriedOut m k before after (StepReader reader) frame answer = PartyRight m k before after (suc reader) answer
 CarriedOut m k before after (StartPut point value) frame answer = answer ≡ started
 CarriedOut m k before after (StartChange point keep flip) frame answer = answer ≡ started
 CarriedOut m k before after (StartRemoval point) frame answer = answer ≡ started
 CarriedOut m k before after StartCommand frame answer =
     CommandRight (eqb (sentIn frame .number) (lastEnded (before .log) (sentIn frame) .sent .number)) (lastEnded (before .log) (sentIn frame) .answer) before after answer
-CarriedOut m k before after StepWriter frame answer = WriterRight k (before .log .writer .operation) (writerStepped before answer) answer
+CarriedOut m k before after StepWriter frame answer = PartyRight m k before after 0 answer
+CarriedOut m k before after Turn frame answer = TurnRight m k before after answer
 
 -- "each call is started, stepped, ended or refused as document 01 says": refused with this number and nothing touched or, where it is 0, carried out
 abbrev pub AnsweredBy : ℕ → ℕ → ℕ → World → World → Call → List ℕ → Answer → Type 0
@@ -134,6 +146,38 @@ unfoldable pub sents : List Given → List Sent
 sents [] = []
 sents (given ∷ rest) = given .sent ∷ sents rest
 
+-- the steps that a reader's operation may take: a lookup k + 1, a walk m
+unfoldable pub readingBound : ℕ → ℕ → Reading → ℕ
+readingBound m k idle = 0
+readingBound m k (lookingUp point) = k + 1
+readingBound m k walking = m
+
+-- the steps that a party's operation may take
+unfoldable pub partyBound : ℕ → ℕ → Log → ℕ → ℕ
+partyBound m k log zero = stepBound k (log .writer .operation)
+partyBound m k log (suc reader) = readingBound m k (log .readers reader)
+
+-- of a party at work
+pub record InTurn (m k : ℕ) (world : World) (party : ℕ) : Type 0 where
+  -- "Whoever has work gets a step within seventeen turns": those since it was started or last stepped
+  pub served-soon : world .turns party .waited ≤ 16
+  -- "so a lookup that has begun ends within 17(k + 1) turns": an operation underway has seen fewer
+  pub ends-soon : world .turns party .seen < 17 * partyBound m k (world .log) party
+
+-- of a step that is carried out, and so of one that ends an operation
+pub record SteppedInTurn (m k : ℕ) (before after : World) (party : ℕ) : Type 0 where
+  -- the operation has seen at most 17 turns for each of its steps, this one included
+  pub by-steps : after .turns party .seen ≤ 17 * (stepsOf before party + 1)
+  -- so a lookup at most 17(k + 1)
+  pub in-all : after .turns party .seen ≤ 17 * partyBound m k (before .log) party
+
+-- what holds of the turns that a party has seen, if the call is a step of it
+abbrev pub StepInTurn : ℕ → ℕ → World → World → Role → Answer → Type 0
+StepInTurn m k before after (readerStart reader begun) answer = Unit {0}
+StepInTurn m k before after (readerStep reader) answer = isRefused answer ≡ false → SteppedInTurn m k before after (suc reader)
+StepInTurn m k before after (writerStart begun) answer = Unit {0}
+StepInTurn m k before after writerStep answer = isRefused answer ≡ false → SteppedInTurn m k before after 0
+
 -- what holds before the first call and after each
 pub record WorldRight (m k : ℕ) (world : World) : Type 0 where
   pub m-stays : world .panel .m ≡ m
@@ -144,12 +188,14 @@ pub record WorldRight (m k : ℕ) (world : World) : Type 0 where
   pub acts-once : (station number : ℕ) → times station number (world .acts) ≤ 1
   -- and its change ends at most once, so that it gave one answer
   pub ends-once : (station number : ℕ) → times station number (sents (world .log .ended)) ≤ 1
+  -- every party at work is served in time, "no matter what the others start"
+  pub in-turn : (party : ℕ) → party ≤ 16 → hasWork (world .log) party ≡ true → InTurn m k world party
 
 -- the claim of a list of calls that begins in this world
 abbrev pub Holds : ℕ → ℕ → World → List Request → Type 0
 Holds m k world [] = WorldRight m k world
 Holds m k world (request ∷ rest) =
-    WorldRight m k world × Right m k world (next world request) (request .call) (request .frame) (outcomeOf world request .answer) × Holds m k (next world request) rest
+    WorldRight m k world × Right m k world (next world request) (request .call) (request .frame) (outcomeOf world request .answer) × StepInTurn m k world (next world request) (roleOf (request .call) (request .frame) (outcomeOf world request .answer)) (outcomeOf world request .answer) × Holds m k (next world request) rest
 
 -- the claim
 abbrev pub Claim : ℕ → ℕ → List Request → Type 0
@@ -169,6 +215,7 @@ ArgumentsFit (StartChange point keep flip) = Fits32 point × Fits32 keep × Fits
 ArgumentsFit (StartRemoval point) = Fits32 point
 ArgumentsFit StartCommand = Unit {0}
 ArgumentsFit StepWriter = Unit {0}
+ArgumentsFit Turn = Unit {0}
 
 -- and so do those of each call of a list, with the bytes of its frame
 abbrev pub AllFit : List Request → Type 0

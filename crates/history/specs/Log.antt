@@ -1,17 +1,18 @@
--- What the calls so far and their answers say: who has work underway, and which commands have ended with which answer. As the types show, it depends on nothing else:
--- nothing in this file looks at the record or at the slots.
-use Prim.Native.Nat.{ℕ}
-use mathlib.Core.Bool.{Bool, true, false, cond}
+-- What the calls so far and their answers say: who has work underway, which commands have ended with which answer, and the place in the circle. As the types show, it
+-- depends on nothing else: nothing in this file looks at the record or at the slots.
+use Prim.Native.Nat.{ℕ, zero, suc}
+use mathlib.Core.Bool.{Bool, true, false, cond, not}
 use mathlib.Core.List.{List, [], _∷_, _++_}
 use lib.Dec.{eqb}
 use Rattle.conditions.specs.Conditions.{both}
-use Rattle.answers.specs.Answers.{Ending, changed, Answer, started, underway, ended, walked, walkedLast, givenAgain, gives, refused, hasEnded, isStarted}
+use Rattle.answers.specs.Answers.{Ending, changed, Answer, started, underway, ended, walked, walkedLast, served, givenAgain, gives, refused, hasEnded, isStarted}
 use Rattle.plain_list.specs.PlainList.{Operation, nothing, put, change, removal}
 use Rattle.change.specs.Change.{actionMasks}
 use Rattle.command.specs.declared.Sent.{Sent}
 use Rattle.command.specs.Command.{sentIn}
+use Rattle.dispatcher.specs.Circle.{nobody, partyAfter, partyDue}
 use Rattle.calls.specs.declared.Call.{Call}
-use Rattle.calls.specs.declared.Call.the-variants.{StartLookup, StartWalk, StepReader, StartPut, StartChange, StartRemoval, StartCommand, StepWriter}
+use Rattle.calls.specs.declared.Call.the-variants.{StartLookup, StartWalk, StepReader, StartPut, StartChange, StartRemoval, StartCommand, StepWriter, Turn}
 
 -- a call, and the frame lent with it
 pub record Request : Type 0 where
@@ -44,27 +45,74 @@ pub data Role : Type 0 where
 unfoldable pub asChange : Sent → Operation
 asChange sent = change (sent .point) (actionMasks (sent .action) .keep) (actionMasks (sent .action) .flip)
 
--- "starts of lookups and walks, readers' steps, puts, changes, removals, commands and writer's steps"
-unfoldable pub roleOf : Call → List ℕ → Role
-roleOf (StartLookup reader point) frame = readerStart reader (lookingUp point)
-roleOf (StartWalk reader) frame = readerStart reader walking
-roleOf (StepReader reader) frame = readerStep reader
-roleOf (StartPut point value) frame = writerStart (writing (put point value) [])
-roleOf (StartChange point keep flip) frame = writerStart (writing (change point keep flip) [])
-roleOf (StartRemoval point) frame = writerStart (writing (removal point) [])
-roleOf StartCommand frame = writerStart (writing (asChange (sentIn frame)) (sentIn frame ∷ []))
-roleOf StepWriter frame = writerStep
-
 -- a command whose change has ended, and the answer that it gave
 pub record Given : Type 0 where
   pub sent : Sent
   pub answer : Ending
 
--- what has been started and has not ended, and what the changes of commands have given, the latest first
+-- what has been started and has not ended; what the changes of commands have given, the latest first; and the place in the circle
 pub record Log : Type 0 where
   pub writer : Writing
   pub readers : ℕ → Reading
   pub ended : List Given
+  -- the party that a turn tries first
+  pub place : ℕ
+
+-- the reader has no work underway
+abbrev pub isIdle : Reading → Bool
+isIdle idle = true
+isIdle (lookingUp point) = false
+isIdle walking = false
+
+-- the writer has no work underway
+abbrev pub isNothing : Operation → Bool
+isNothing nothing = true
+isNothing (put point value) = false
+isNothing (change point keep flip) = false
+isNothing (removal point) = false
+
+-- the party has work underway: 0 is the writer, "reader n is n + 1"
+unfoldable pub hasWork : Log → ℕ → Bool
+hasWork log zero = not (isNothing (log .writer .operation))
+hasWork log (suc reader) = not (isIdle (log .readers reader))
+
+-- the party whose turn it is, or nobody
+unfoldable pub dueIn : Log → ℕ
+dueIn log = partyDue (hasWork log) (log .place)
+
+-- a party's step
+abbrev pub stepOf : ℕ → Role
+stepOf zero = writerStep
+stepOf (suc reader) = readerStep reader
+
+-- the party that a call has served: of a turn one, of a refused turn and of any other call none
+abbrev pub servedBy : Answer → List ℕ
+servedBy started = []
+servedBy underway = []
+servedBy (ended ending) = []
+servedBy (walked word) = []
+servedBy (walkedLast word) = []
+servedBy (served party answer) = party ∷ []
+servedBy (givenAgain ending) = []
+servedBy (gives values) = []
+servedBy (refused n) = []
+
+-- its step; where none was served, the call was refused and the step is of no party that there is
+abbrev pub servedRole : List ℕ → Role
+servedRole [] = stepOf nobody
+servedRole (party ∷ rest) = stepOf party
+
+-- "starts of lookups and walks, readers' steps, puts, changes, removals, commands and writer's steps"; a turn is the step of the party that it served
+unfoldable pub roleOf : Call → List ℕ → Answer → Role
+roleOf (StartLookup reader point) frame answer = readerStart reader (lookingUp point)
+roleOf (StartWalk reader) frame answer = readerStart reader walking
+roleOf (StepReader reader) frame answer = readerStep reader
+roleOf (StartPut point value) frame answer = writerStart (writing (put point value) [])
+roleOf (StartChange point keep flip) frame answer = writerStart (writing (change point keep flip) [])
+roleOf (StartRemoval point) frame answer = writerStart (writing (removal point) [])
+roleOf StartCommand frame answer = writerStart (writing (asChange (sentIn frame)) (sentIn frame ∷ []))
+roleOf StepWriter frame answer = writerStep
+roleOf Turn frame answer = servedRole (servedBy answer)
 
 -- a start begins the writer's work; "A step that ends an operation .. leaves that party idle"
 unfoldable pub writingAfter : Writing → Role → Answer → Writing
@@ -92,6 +140,7 @@ endedBy command underway = []
 endedBy command (ended ending) = givenTo command ending
 endedBy command (walked word) = []
 endedBy command (walkedLast word) = []
+endedBy command (served party answer) = endedBy command answer
 endedBy command (givenAgain ending) = []
 endedBy command (gives values) = []
 endedBy command (refused n) = []
@@ -103,6 +152,11 @@ endedNow command (readerStep reader) answer = []
 endedNow command (writerStart begun) answer = []
 endedNow command writerStep answer = endedBy command answer
 
+-- "a turn's step alone moves it one past the party served"
+abbrev pub placeMoved : ℕ → List ℕ → ℕ
+placeMoved place [] = place
+placeMoved place (party ∷ rest) = partyAfter party
+
 -- the log after a call with this answer
 unfoldable pub logAfter : Log → Role → Answer → Log
 logAfter log role answer =
@@ -110,24 +164,12 @@ logAfter log role answer =
       writer = writingAfter (log .writer) role answer;
       readers = λ (n : ℕ). readingAfter n (log .readers n) role answer;
       ended = endedNow (log .writer .command) role answer ++ log .ended;
+      place = placeMoved (log .place) (servedBy answer);
     }
 
--- before the first call: everyone idle, no command ended
+-- before the first call: everyone idle, no command ended, the place "at first 0, the writer"
 unfoldable pub freshLog : Log
-freshLog = record { writer = writing nothing []; readers = λ (n : ℕ). idle; ended = [] }
-
--- the reader has no work underway
-abbrev pub isIdle : Reading → Bool
-isIdle idle = true
-isIdle (lookingUp point) = false
-isIdle walking = false
-
--- the writer has no work underway
-abbrev pub isNothing : Operation → Bool
-isNothing nothing = true
-isNothing (put point value) = false
-isNothing (change point keep flip) = false
-isNothing (removal point) = false
+freshLog = record { writer = writing nothing []; readers = λ (n : ℕ). idle; ended = []; place = 0 }
 
 -- a station's last command that ended, with the answer that its change gave; "Each station's last number starts at 0", and no frame has that number
 unfoldable pub lastGiven : ℕ → List Given → Given

@@ -1,21 +1,21 @@
 -- A list of calls, from a fresh panel on: the record and the slots as `apply` leaves them, the log of the calls and their answers, the plain list beside them, and what
--- is noted of each operation underway so that the claim can speak of it. When the plain list is fed goes by the writer's accesses; of the record nothing else is looked
+-- is noted of each operation underway, also of the turns it has seen, so that the claim can speak of it. When the plain list is fed goes by the writer's accesses; of the record nothing else is looked
 -- at but m and k.
-use Prim.Native.Nat.{ℕ, _+_}
+use Prim.Native.Nat.{ℕ, zero, suc, _+_}
 use mathlib.Core.Bool.{Bool, false, cond, not}
 use mathlib.Core.List.{List, [], _∷_, _++_}
 use lib.Dec.{eqb}
-use lib.ListN.{replicate}
+use lib.ListN.{length, replicate}
 use Rattle.conditions.specs.Conditions.{both, either}
 use Rattle.record.specs.declared.Record.{Record}
 use Rattle.record.specs.Parts.{freshRecord}
-use Rattle.answers.specs.Answers.{Ending, endedWith, Answer, started, underway, ended, walked, walkedLast, givenAgain, gives, refused, hasEnded, isRefused, Outcome}
+use Rattle.answers.specs.Answers.{Ending, endedWith, Answer, started, underway, ended, walked, walkedLast, served, givenAgain, gives, refused, hasEnded, isStarted, isRefused, Outcome}
 use Rattle.plain_list.specs.PlainList.{Rows, Told, feed}
 use Rattle.effects.specs.Memory.{storesSlot}
 use Rattle.writer.specs.Step.{writerAccess}
 use Rattle.command.specs.declared.Sent.{Sent}
 use Rattle.calls.specs.Calls.{applied}
-use Rattle.history.specs.Log.{Request, Role, readerStart, readerStep, writerStart, writerStep, roleOf, Log, logAfter, freshLog}
+use Rattle.history.specs.Log.{Request, Role, readerStart, readerStep, writerStart, writerStep, roleOf, Log, servedBy, logAfter, freshLog}
 
 -- what is noted of the writer's operation underway
 pub record WriterNotes : Type 0 where
@@ -35,6 +35,13 @@ pub record ReaderNotes : Type 0 where
   -- the words that a walk has given, the latest first
   pub words : List ℕ
 
+-- the turns that a party has seen
+pub record TurnNotes : Type 0 where
+  -- since its operation was last started
+  pub seen : ℕ
+  -- since it was last started or stepped
+  pub waited : ℕ
+
 -- before its first step nothing is noted of an operation, and nothing once it has ended
 unfoldable pub noWriterNotes : WriterNotes
 noWriterNotes = record { steps = 0; feeds = 0; told = endedWith 7 }
@@ -42,6 +49,10 @@ noWriterNotes = record { steps = 0; feeds = 0; told = endedWith 7 }
 -- the same of a reader's
 unfoldable pub noReaderNotes : ReaderNotes
 noReaderNotes = record { steps = 0; moments = []; words = [] }
+
+-- a party that has seen no turn
+unfoldable pub noTurns : TurnNotes
+noTurns = record { seen = 0; waited = 0 }
 
 -- the panel, the log, the plain list beside them, and what is noted
 pub record World : Type 0 where
@@ -51,6 +62,8 @@ pub record World : Type 0 where
   pub rows : Rows
   pub writer : WriterNotes
   pub readers : ℕ → ReaderNotes
+  -- by the party
+  pub turns : ℕ → TurnNotes
   -- the commands that have acted, the latest first
   pub acts : List Sent
 
@@ -109,6 +122,7 @@ wordGiven underway = []
 wordGiven (ended ending) = []
 wordGiven (walked word) = word ∷ []
 wordGiven (walkedLast word) = word ∷ []
+wordGiven (served party answer) = wordGiven answer
 wordGiven (givenAgain ending) = []
 wordGiven (gives values) = []
 wordGiven (refused n) = []
@@ -132,6 +146,26 @@ readerNow answer rows (readerStep reader) n notes =
 readerNow answer rows (writerStart begun) n notes = witnessed notes rows
 readerNow answer rows writerStep n notes = witnessed notes rows
 
+-- the notes with a step that may be a turn, the party's own or another's; a refused one is nobody's
+unfoldable pub turnsPassed : Answer → Bool → TurnNotes → TurnNotes
+turnsPassed answer own notes =
+    record {
+      seen = notes .seen + length (servedBy answer);
+      waited = cond (both own (not (isRefused answer))) 0 (notes .waited + length (servedBy answer));
+    }
+
+-- the turns that a party has seen after the call: none once it has been started
+unfoldable pub turnsNow : Answer → Role → ℕ → TurnNotes → TurnNotes
+turnsNow answer (readerStart reader begun) party notes = cond (both (isStarted answer) (eqb (suc reader) party)) noTurns notes
+turnsNow answer (readerStep reader) party notes = turnsPassed answer (eqb (suc reader) party) notes
+turnsNow answer (writerStart begun) party notes = cond (both (isStarted answer) (eqb 0 party)) noTurns notes
+turnsNow answer writerStep party notes = turnsPassed answer (eqb 0 party) notes
+
+-- the steps that a party's operation has made
+abbrev pub stepsOf : World → ℕ → ℕ
+stepsOf world zero = world .writer .steps
+stepsOf world (suc reader) = world .readers reader .steps
+
 -- the world after a call that has come to this
 unfoldable pub noted : World → Role → Outcome → World
 noted world role after =
@@ -142,6 +176,7 @@ noted world role after =
       rows = rowsNow world (after .answer) role;
       writer = writerNow world (after .answer) role;
       readers = λ (n : ℕ). readerNow (after .answer) (rowsNow world (after .answer) role) role n (world .readers n);
+      turns = λ (party : ℕ). turnsNow (after .answer) role party (world .turns party);
       acts = cond (storesNow (world .panel) (after .answer) role) (world .log .writer .command ++ world .acts) (world .acts);
     }
 
@@ -151,7 +186,7 @@ outcomeOf world request = applied (world .panel) (world .slots) (request .call) 
 
 -- the world after a call
 unfoldable pub next : World → Request → World
-next world request = noted world (roleOf (request .call) (request .frame)) (outcomeOf world request)
+next world request = noted world (roleOf (request .call) (request .frame) (outcomeOf world request .answer)) (outcomeOf world request)
 
 -- a fresh panel: nothing stored, nobody at work, nothing noted
 unfoldable pub freshWorld : ℕ → ℕ → World
@@ -163,5 +198,6 @@ freshWorld m k =
       rows = [];
       writer = noWriterNotes;
       readers = λ (n : ℕ). noReaderNotes;
+      turns = λ (party : ℕ). noTurns;
       acts = [];
     }

@@ -2,8 +2,11 @@ pub mod Behind
 pub mod Calls
 pub mod CountsLent
 pub mod Elements
+pub mod Folded
 pub mod Frame
+pub mod HandedOn
 pub mod InPlace
+pub mod Judged
 pub mod Locals
 pub mod Looked
 pub mod Outcome
@@ -13,8 +16,12 @@ pub mod PartWalk
 pub mod Passing
 pub mod ReaderPart
 pub mod RecordFields
+pub mod Results
+pub mod SlotsShared
 pub mod Steps
 pub mod Taken
 pub mod Tested
+pub mod TurnAnswered
 pub mod Walk
 pub mod WriterPart
+pub mod WritersStep

@@ -9,6 +9,9 @@ use Rattle.answers.proofs.StartOutcome as StartOutcome
 use Rattle.answers.proofs.StepAnswer as StepAnswer
 use Rattle.answers.proofs.StepAnswer.Laws as StepAnswer′
 use Rattle.answers.proofs.StepOutcome as StepOutcome
+use Rattle.answers.proofs.TurnAnswer as TurnAnswer
+use Rattle.answers.proofs.TurnAnswer.Laws as TurnAnswer′
+use Rattle.answers.proofs.TurnOutcome as TurnOutcome
 use Rattle.reader_starts.proofs.StartedReader as StartedReader
 use Rattle.reader_step.proofs.SteppedReader as SteppedReader
 use Rattle.record.proofs.Reader as Reader
@@ -40,6 +43,12 @@ step-answer = record { type = StepAnswer.the-type; laws = StepAnswer′.the-laws
 
 abbrev pub step-outcome : Outcome
 step-outcome = record { states = panel; answers = step-answer; name = StepOutcome.the-type .name; D = StepOutcome.the-type .D; state = λ r. r .panel; answer = λ r. r .answer; one = StepOutcome.the-type .to-one }
+
+abbrev pub turn-answer : Answer
+turn-answer = record { type = TurnAnswer.the-type; laws = TurnAnswer′.the-laws; few = tt; lowers = TurnAnswer′.lowers; plain = TurnAnswer′.the-plain }
+
+abbrev pub turn-outcome : Outcome
+turn-outcome = record { states = panel; answers = turn-answer; name = TurnOutcome.the-type .name; D = TurnOutcome.the-type .D; state = λ r. r .panel; answer = λ r. r .answer; one = TurnOutcome.the-type .to-one }
 
 abbrev entry-answer : Answer
 entry-answer = record { type = EntryAnswer.the-type; laws = EntryAnswer′.the-laws; few = tt; lowers = EntryAnswer′.lowers; plain = EntryAnswer′.the-plain }

@@ -11,7 +11,7 @@ use mir.Syntax.{Name, Ty, Fn, Body, named, erased, imm, mut, tyRef, tyInt, tyBoo
 use mir.Val.{Val, vptr, vint, vbool, vstruct, vcons, vnil}
 use mir.Fields.{setV}
 use base.Logic.{SProp, ent}
-use base.Fml.{Fml, GName, fat, froom}
+use base.Fml.{Fml, fat, froom}
 use prog.Memory.{Memory, up, align}
 use prog.Model.{Model}
 use prog.Routine.{Routine, Env as RoutineEnv}
@@ -44,12 +44,13 @@ use Rattle.in_place.proofs.ranges.fits_at.Symbol as fits-def
 use Rattle.in_place.proofs.ranges.fits_at.Symbol.{name as #fits}
 use Rattle.record.specs.declared.Record.{Record}
 use Rattle.record_ranges.specs.Ranges.{inRange}
-use Rattle.in_place.proofs.Calls.{calls-sharing}
+use Rattle.in_place.proofs.Calls.{renamed, calls-sharing}
 use Rattle.in_place.proofs.Frame.{free-rooms}
 use Rattle.in_place.proofs.Locals.{locals, past, Blocks, env, rooms, cells, From, from-next, from-first, from-past, allocate, fill, free, found}
 use Rattle.in_place.proofs.Outcome.{Outcome, answer-row, outcome-row, answer-ty, outcome-ty, state-ty, state-val, answer-val, outcome-val, is-answer, answer-typed}
 use Rattle.in_place.proofs.Params.{Param, slice, numbers, numbers-last, numbers-left, tys, slots, args, Related, well-typed}
 use Rattle.in_place.proofs.RecordFields.{row, recordTy, Holds, recordAt, opens-panel, closes-panel}
+use Rattle.in_place.proofs.Results.{truth}
 use Rattle.in_place.proofs.Steps.{hears}
 use Rattle.in_place.proofs.Taken.{ended, Entry, Exit, ends, in-place as taken}
 
@@ -202,10 +203,10 @@ module _ (O : Outcome) (k : ℕ) (g : Access) where
           -- [the record; what closes it at 1 to 3; the numbers; three lists of locals; the length at 8; the shared reference at 10; next at 12; the named at 14; fits at 15; the slots at 17; the reference at 19; the answer at 21; what the slots own at 23; their token]
           assigns ! (addr ! (from ! (hop ! (look ! 19 refl) (stop !)))) (found ! (at .at-next .1 .0) (stop !)) (init ! 10 refl (tt, tt)) $
           assigns ! (of-opd ! (load ! (from ! (fld ! refl (stop !))) (look-in ! 17 (sub ! 1 refl (whole !))))) (found ! (at .at-next .1 .1 .0) (stop !)) (init ! 8 refl (tt, ok .0 .1 .1 .0)) $
-          calls-sharing ! (fmOf 𝓤 H (W .laws) 𝓣) (now x) (x .ptr .0) (x .ptr .1) (length (a .0 .now)) is (ok .0 .1 .1 .0 .fits) (λ ν γ′ r. fits.spec 𝓤 H A mem run (ν ∷ [], tt) (lent γ′, (length (a .0 .now), tt)) .ensures tt r)
-          (λ ν γ′. met (((ν ∷ [], tt), (fullShare, tt), tt, (lent γ′, (length (a .0 .now), tt)), (vptr (x .ptr .0) (x .ptr .1) ∷ [], (vint w64 (length (a .0 .now)) ∷ [], tt))), tt))
-          (λ ν γ′. and-then ! (load ! (found ! (at .at-next .1 .0) (stop !)) (look ! 11 refl)) (and-then ! (load ! (found ! (at .at-next .1 .1 .0) (stop !)) (look ! 9 refl)) (no-more !))) (λ ν γ′ fit.
-          hears ! (lastsOf (ν ∷ [], tt) (fits.signature .params) (fits.ended .kept) (lent γ′, (length (a .0 .now), tt))) (λ _. fit ≡ fitting k κs a x) (λ _ fit-is. drop ! $
+          calls-sharing ! (fmOf 𝓤 H (W .laws) 𝓣) (now x) (x .ptr .0) (x .ptr .1) (length (a .0 .now)) is (ok .0 .1 .1 .0 .fits) truth (λ ν γ′ r. fits.spec 𝓤 H A mem run (ν ∷ [], tt) (renamed x γ′, (length (a .0 .now), tt)) .ensures tt r)
+          (λ ν γ′. met (((ν ∷ [], tt), (fullShare, tt), tt, (renamed x γ′, (length (a .0 .now), tt)), (vptr (x .ptr .0) (x .ptr .1) ∷ [], (vint w64 (length (a .0 .now)) ∷ [], tt))), tt))
+          (λ ν γ′. and-then ! (load ! (found ! (at .at-next .1 .0) (stop !)) (look ! 11 refl)) (and-then ! (load ! (found ! (at .at-next .1 .1 .0) (stop !)) (look ! 9 refl)) (no-more !))) (λ ν γ′ fit _.
+          hears ! (lastsOf (ν ∷ [], tt) (fits.signature .params) (fits.ended .kept) (renamed x γ′, (length (a .0 .now), tt))) (λ _. fit ≡ fitting k κs a x) (λ _ fit-is. drop ! $
           land ! (found ! (at .at-named .0) (stop !)) (init ! 15 refl (tt, tt)) $ rewrite ! 15 (λ (f : Bool). ‵ (fat fullShare tyBool l₃ 0 (vbool f))) fit-is refl $ forget ! 8 refl $ forget ! 10 refl $
           move ! (0 ∷ 19 ∷ 17 ∷ 4 ∷ 15 ∷ 14 ∷ 12 ∷ 8 ∷ 7 ∷ 6 ∷ 5 ∷ 23 ∷ 24 ∷ []) $ m .goes is _ _ (l₁, (l₂, bs)) (l₃, ns) (l₄, (l₅, (l₆, ts))) hs ss _ _ at (λ next is-next.
           -- [the record; the reference; the slots; the numbers; fits at 4; the named; next; the length; three lists of locals at 8 to 10; the token; what is said; what closes the record at 13 to 15; …; the shared reference at 17; …; the answer at 23]
@@ -220,10 +221,6 @@ module _ (O : Outcome) (k : ℕ) (g : Access) where
         where
           ok : Typed (tys ps) (args κs ps a)
           ok = well-typed κs 𝓤 H A W ps a are
-
-          -- the record, lent by `&`
-          lent : GName → RefT Record
-          lent γ′ = record { ptr = x .ptr; name = γ′; now = now x }
 
 -- a function that is proved so: its contract's clauses, its environment, its name there and its code
 pub record Wrapper (O : Outcome) (k : ℕ) {M : Type 1} (𝓤 : URA M) (H : Heap 𝓤) (𝓜 : Model 𝓤 H) (𝓡 : Running 𝓤 H 𝓜) : Type 2 where

@@ -12,7 +12,7 @@ use prog.Wp.{Heap, WpFn, Tables, Closed}
 use ghost.Atoms.{Atoms, sem}
 use contract.Lifetimes.{Lfts, Shares, toks}
 use contract.Running.{Running, GhostRules, tables, tablesOf}
-use types.Kit.{Given, Item, ‵, raw, _⊛_, mean, ⋆, _$_, _∵_, !, qed, move, use1, join, fjoin, show, frame, updating, now as at-once, done}
+use types.Kit.{Given, Item, ‵, raw, _⊛_, mean, ⋆, _$_, _∵_, !, qed, by, move, use1, join, fjoin, show, frame, updating, now as at-once, done}
 use denote.RattleType.{RattleType, Denots, flat, owns}
 use denote.Builtin.{One, RefMutOf}
 use denote.Exit.{yes}
@@ -48,15 +48,22 @@ module _ (R N : RattleType) (single : One (R .mir)) {n : ℕ} (ps : List (Param 
     abbrev pub Exit : Val → SProp 𝓤
     Exit v = H .⇛ (ex 𝓤 (Result v))
 
-    -- the function ends with the answer w and the state h: what is left when its code has run, S being what it was told of them
+    -- the function ends with the answer w and the state h, which is the last: what is left when its code has run, S being what it was told of them
+    pub ends-resolved : (W : Given 𝓤 H A) → Makes 𝓤 H A N (Is N) → (w : N .Denot) (v : Val) → Is N w (v ∷ []) → (h : R .Denot) (l : Fins κs (slots ps) (all yes (slots ps)) a) (S : SProp 𝓤) → ent 𝓤 S (c κs (x, a) .ensures γ w (at-last x h, outs κs (slots ps) (all yes (slots ps)) a l))
+        → ent 𝓤 (⋆ 𝓤 H A (‵ (fres (x .name) (R .coded .code h)) ∷ ‵ (flft (κs .0) (qs .0)) ∷ raw (toks 𝓤 A n (κs .1) (qs .1)) ∷ raw S ∷ ‵ (lastsOf κs (slots ps) (all yes (slots ps)) a l) ∷ [])) (Exit v)
+    ends-resolved W mk w v is h l S so =
+        qed W (‵ (fres (x .name) (R .coded .code h)) ∷ ‵ (flft (κs .0) (qs .0)) ∷ raw (toks 𝓤 A n (κs .1) (qs .1)) ∷ raw S ∷ ‵ (lastsOf κs (slots ps) (all yes (slots ps)) a l) ∷ []) ∵
+        updating ! $ at-once ! $ show ! (Result v) w $ owned ! N (Is N) mk w (v ∷ []) is $ move ! (2 ∷ 3 ∷ 0 ∷ []) $ join ! $ move ! (0 ∷ 1 ∷ []) $ join ! $ frame ! $
+        -- [its last state; what was told; what is said of the last values]
+        move ! (0 ∷ 2 ∷ []) $ fjoin ! $ move ! (1 ∷ []) $ use1 W (raw (c κs (x, a) .ensures γ w (at-last x h, outs κs (slots ps) (all yes (slots ps)) a l))) so $ move ! (1 ∷ 0 ∷ []) $
+        show ! (Lasts w) (h, l) $ done !
+
+    -- the same where the function itself has left the state so
     pub ends : (W : Given 𝓤 H A) → Makes 𝓤 H A N (Is N) → (w : N .Denot) (v : Val) → Is N w (v ∷ []) → (h : R .Denot) (l : Fins κs (slots ps) (all yes (slots ps)) a) (S : SProp 𝓤) → ent 𝓤 S (c κs (x, a) .ensures γ w (at-last x h, outs κs (slots ps) (all yes (slots ps)) a l))
         → ent 𝓤 (⋆ 𝓤 H A (‵ (fobs (x .name) (R .coded .code h)) ∷ ‵ (flft (κs .0) (qs .0)) ∷ raw (toks 𝓤 A n (κs .1) (qs .1)) ∷ raw S ∷ ‵ (lastsOf κs (slots ps) (all yes (slots ps)) a l) ∷ [])) (Exit v)
     ends W mk w v is h l S so =
         qed W (‵ (fobs (x .name) (R .coded .code h)) ∷ ‵ (flft (κs .0) (qs .0)) ∷ raw (toks 𝓤 A n (κs .1) (qs .1)) ∷ raw S ∷ ‵ (lastsOf κs (slots ps) (all yes (slots ps)) a l) ∷ []) ∵
-        updating ! $ at-once ! $ show ! (Result v) w $ owned ! N (Is N) mk w (v ∷ []) is $ move ! (2 ∷ 3 ∷ 0 ∷ []) $ join ! $ move ! (0 ∷ 1 ∷ []) $ join ! $ frame ! $
-        -- [obs; what was told; what is said of the last values]
-        use1 W (‵ (fres (x .name) (R .coded .code h))) (W .names .obs-res (x .name) (R .coded .code h)) $ move ! (0 ∷ 2 ∷ []) $ fjoin ! $ move ! (1 ∷ []) $ use1 W (raw (c κs (x, a) .ensures γ w (at-last x h, outs κs (slots ps) (all yes (slots ps)) a l))) so $ move ! (1 ∷ 0 ∷ []) $
-        show ! (Lasts w) (h, l) $ done !
+        use1 W (‵ (fres (x .name) (R .coded .code h))) (W .names .obs-res (x .name) (R .coded .code h)) $ by ! (ends-resolved W mk w v is h l S so)
 
   module _ {M : Type 1} (𝓤 : URA M) (H : Heap 𝓤) (A : Atoms 𝓤) (c : Clauses 𝓤 ended) (fn : Fn) (𝓣 : Tables 𝓤 H) where
     abbrev pub Walk : Type 1

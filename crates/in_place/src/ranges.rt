@@ -22,7 +22,7 @@ fn are_readers_in_range(panel: &Record, m: u32, k: u32) -> bool
     fit
 }
 
-fn are_stations_in_range(panel: &Record) -> bool
+pub(crate) fn are_stations_in_range(panel: &Record) -> bool
     ensures { λ r. ⌜ r ≡ stationsInRange (now (panel .entry) .stations) ⌝ }
 {
     let mut fit = true;
@@ -44,8 +44,9 @@ pub(crate) fn fits_at(panel: &Record, lent: usize) -> bool
     let k = panel.k;
     let reach = panel.reach;
     let writer = panel.writer;
+    let place = panel.place;
     let counts = are_counts_in_range(&panel.counts, m, k);
     let readers = are_readers_in_range(panel, m, k);
     let stations = are_stations_in_range(panel);
-    are_parts_in_range(lent, m, k, reach, counts, writer, readers, stations)
+    are_parts_in_range(lent, m, k, reach, counts, writer, readers, stations, place)
 }

@@ -1,15 +1,17 @@
 // The calls in place for a caller who keeps the record by value: each lends it by `&mut` to the call in place
 // and gives it back with the answer. So a function without references to structs can run the calls in place.
 ghost use mathlib.Core.Path.{_≡_};
-ghost use Rattle.answers.specs.Answers.{paperStart, paperEntry, paperStep, outcome};
+ghost use Rattle.answers.specs.Answers.{paperStart, paperEntry, paperStep, paperTurn, outcome};
 ghost use Rattle.reader_step.specs.Reader.{stepReader};
 ghost use Rattle.reader_starts.specs.Starts.{startLookup, startWalk};
 ghost use Rattle.writer.specs.Starts.{startPut, startChange, startRemoval};
 ghost use Rattle.writer.specs.Step.{stepWriter};
 ghost use Rattle.command.specs.Command.{startCommand};
+ghost use Rattle.dispatcher.specs.Turn.{takeTurn};
 use answers::EntryOutcome;
 use answers::StartOutcome;
 use answers::StepOutcome;
+use answers::TurnOutcome;
 use record::Record;
 
 pub fn start_lookup(mut panel: Record, slots: &[u64], reader: u32, point: u32) -> StartOutcome
@@ -93,6 +95,16 @@ pub fn step_writer(mut panel: Record, slots: &mut [u64]) -> StepOutcome
 {
     let answer = in_place::step_writer(&mut panel, slots);
     StepOutcome {
+        panel: panel,
+        answer: answer,
+    }
+}
+
+pub fn turn(mut panel: Record, slots: &mut [u64]) -> TurnOutcome
+    ensures { λ r. ⌜ outcome (r .panel) (now (slots .exit)) (paperTurn (r .answer)) ≡ takeTurn panel (now (slots .entry)) ⌝ }
+{
+    let answer = in_place::turn(&mut panel, slots);
+    TurnOutcome {
         panel: panel,
         answer: answer,
     }

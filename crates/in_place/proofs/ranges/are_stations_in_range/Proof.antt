@@ -1,15 +1,18 @@
 -- `in_place::ranges::are_stations_in_range` meets its contract: by the walk of all such loops, over the stations.
-use mathlib.Core.Path.{_≡_, refl}
-use Prim.Native.Nat.{ℕ, _+_, _*_, _^_, _<_}
-use native.Mathlib.Omega.{arith}
+use mathlib.Core.Path.{_≡_, refl, _∙_}
+use mathlib.Core.Bool.{true}
 use mathlib.Core.List.{[], _∷_, List}
+use mir.Syntax.{rvOpd, opdTrue}
 use mir.Val.{vbool}
 use base.Logic.{emp}
 use contract.Monad.{factI}
 use contract.Running.{givenOf, tables, tablesOf}
+use types.Kit.{ ! }
+use types.Run.{of-opd, true-lit}
 use sound.WpLaws.{fmOf}
 use denote.Builtin.{bool}
 use denote.Plain.{bool-makes}
+use denote.Ref.{now}
 use denote.Struct.Laws as LL
 use denote.Triple.End.{lastsOf}
 use denote.Triple.Spec.{tripleOf}
@@ -24,11 +27,13 @@ use Rattle.record_ranges.proofs.station_joined.Met as test-thm
 use Rattle.record_ranges.proofs.station_joined.Symbol as test-def
 use Rattle.record_ranges.proofs.station_joined.Symbol.{name as #test}
 use Rattle.in_place.proofs.Calls.{called}
+use Rattle.in_place.proofs.Folded.{walk}
 use Rattle.in_place.proofs.Looked.{looked}
 use Rattle.in_place.proofs.Params.{Param, well-typed}
-use Rattle.in_place.proofs.RecordFields.{stationTy, station-val, stations-found, stations-hold, station-typed}
+use Rattle.in_place.proofs.RecordFields.{stationTy, station-val, stations-found, stations-hold, station-typed, station-inside}
+use Rattle.in_place.proofs.Results.{truth}
 use Rattle.in_place.proofs.Steps.{had}
-use Rattle.in_place.proofs.Tested.{walk}
+use Rattle.in_place.proofs.Tested.{joined, tested}
 use Rattle.in_place.proofs.ranges.are_stations_in_range as self
 use Rattle.in_place.proofs.ranges.are_stations_in_range.Code as code
 use Rattle.in_place.proofs.ranges.are_stations_in_range.Key.{name as #self}
@@ -37,22 +42,16 @@ use Rattle.in_place.proofs.ranges.are_stations_in_range.Statement.{stat
 abbrev ps : List (Param 1)
 ps = []
 
-inside : (i : ℕ) → i < 32 → i * 20 < 2 ^ 64
-inside i l = omega arith
-
-further : (i : ℕ) → i < 32 → i + 1 < 2 ^ 64
-further i l = omega arith
-
 pub are-stations-in-range-spec : {M : Type 1} → statement M
 unfolding code.routine tablesOf stationsInRange
 are-stations-in-range-spec 𝓤 H 𝓜 𝓖 𝓡 =
-    looked ps 𝓤 H 𝓜 𝓖 𝓡 (self.clauses 𝓤 H (𝓖 .A) (𝓜 .mem) (𝓡 .run)) code.env #self code.function (code.unfolded 𝓤 H 𝓜 𝓡) (λ κs qs x a γ are.
-    walk Station.the-field Station′.the-field-laws 32 6 628 stationTy stations-found unheardStation (λ panel. panel .stations) stations-hold (λ panel. refl) tt tt inside further 16 refl ps #test
-    𝓤 H (𝓖 .A) (givenOf 𝓤 H 𝓜 𝓖) (tablesOf 𝓤 H 𝓜 (tables 𝓤 H 𝓜 𝓡 code.env)) (self.clauses 𝓤 H (𝓖 .A) (𝓜 .mem) (𝓡 .run)) κs qs x a γ (well-typed κs 𝓤 H (𝓖 .A) (givenOf 𝓤 H 𝓜 𝓖) ps a are)
-    stationInRange (station-typed 𝓤 H (𝓖 .A) (givenOf 𝓤 H 𝓜 𝓖))
-    (λ fit y is-y. called 𝓤 H (𝓖 .A) (givenOf 𝓤 H 𝓜 𝓖) _ (fmOf 𝓤 H (givenOf 𝓤 H 𝓜 𝓖 .laws) (tablesOf 𝓤 H 𝓜 (tables 𝓤 H 𝓜 𝓡 code.env))) #test (bool ∷ Station.the-row ∷ [])
+    looked truth ps 𝓤 H 𝓜 𝓖 𝓡 (self.clauses 𝓤 H (𝓖 .A) (𝓜 .mem) (𝓡 .run)) code.env #self code.function (code.unfolded 𝓤 H 𝓜 𝓡) (λ κs qs x a γ are.
+    walk Station.the-field Station′.the-field-laws 32 6 628 stationTy stations-found unheardStation (λ panel. panel .stations) stations-hold (λ panel. refl) tt tt station-inside 16 refl truth ps #test true refl (rvOpd opdTrue)
+    𝓤 H (𝓖 .A) (givenOf 𝓤 H 𝓜 𝓖) (tablesOf 𝓤 H 𝓜 (tables 𝓤 H 𝓜 𝓡 code.env)) (self.clauses 𝓤 H (𝓖 .A) (𝓜 .mem) (𝓡 .run)) κs qs x a γ (well-typed κs 𝓤 H (𝓖 .A) (givenOf 𝓤 H 𝓜 𝓖) ps a are) (λ Γ E. of-opd ! (true-lit !))
+    (joined stationInRange) (station-typed 𝓤 H (𝓖 .A) (givenOf 𝓤 H 𝓜 𝓖))
+    (λ fit _ y is-y. called 𝓤 H (𝓖 .A) (givenOf 𝓤 H 𝓜 𝓖) _ (fmOf 𝓤 H (givenOf 𝓤 H 𝓜 𝓖 .laws) (tablesOf 𝓤 H 𝓜 (tables 𝓤 H 𝓜 𝓡 code.env))) #test (bool ∷ Station.the-row ∷ [])
     (bool-makes 𝓤 H (𝓖 .A) (givenOf 𝓤 H 𝓜 𝓖), (LL.makes Station.the-type Station′.the-plain 𝓤 H (𝓖 .A), tt))
-    (fit, (y, a)) (vbool fit ∷ [], (station-val y ∷ [], tt)) (refl, (is-y, are)) bool (λ r. lastsOf tt (test.signature .params) (test.ended .kept) (fit, (y, a))) (λ r. r ≡ both fit (stationInRange y))
+    (fit, (y, a)) (vbool fit ∷ [], (station-val y ∷ [], tt)) (refl, (is-y, are)) bool (λ r. lastsOf tt (test.signature .params) (test.ended .kept) (fit, (y, a))) (λ r. r ≡ both fit (stationInRange y)) _ (λ r e. e)
     (cited 𝓤 H (tripleOf 𝓤 H (𝓖 .A) test.signature (test.spec 𝓤 H (𝓖 .A) (𝓜 .mem) (𝓡 .run))) 𝓜 𝓡 code.env #test test-def.routine refl (test-thm.met 𝓤 H 𝓜 𝓖 𝓡)
     ((tt, tt, tt, (fit, (y, a)), (vbool fit ∷ [], (station-val y ∷ [], tt))), tt)))
-    tt (had 𝓤 H (𝓖 .A) 0) (factI 𝓤 _ (emp 𝓤) refl))
+    tt (had 𝓤 H (𝓖 .A) 0) (λ fit fit-is. factI 𝓤 _ (emp 𝓤) (fit-is ∙ tested stationInRange (now x .stations))))

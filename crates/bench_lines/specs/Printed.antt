@@ -2,7 +2,7 @@
 use Prim.Native.Nat.{ℕ}
 use mathlib.Core.List.{List, [], _∷_, _++_}
 use Rattle.refusal.specs.Refusals.{codes}
-use Rattle.answers.specs.Answers.{Ending, lookedUp, placed, changed, removed, endedWith, Answer, started, underway, ended, walked, walkedLast, givenAgain, gives, refused}
+use Rattle.answers.specs.Answers.{Ending, lookedUp, placed, changed, removed, endedWith, Answer, started, underway, ended, walked, walkedLast, served, givenAgain, gives, refused}
 use Rattle.text_buffer.specs.Filling.{spaced}
 
 -- the line end, LF
@@ -28,6 +28,7 @@ answerShown underway = []
 answerShown (ended ending) = endingShown ending
 answerShown (walked word) = []
 answerShown (walkedLast word) = []
+answerShown (served party answer) = []
 answerShown (givenAgain ending) = []
 answerShown (gives values) = []
 answerShown (refused n) = refusalShown n

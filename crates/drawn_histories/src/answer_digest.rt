@@ -15,6 +15,9 @@ pub(crate) fn answer_folded(digest: Digest, answer: CallAnswer) -> Digest {
         CallAnswer::Started => folded(digest, 15),
         CallAnswer::GivenAgain(stored) => command_answer_folded(folded(digest, 16), stored),
         CallAnswer::Stepped(result) => result_folded(digest, result),
+        CallAnswer::Served { party, result } => {
+            result_folded(two_folded(digest, 26, party), result)
+        }
         CallAnswer::Refused(refusal) => folded(digest, refusal.number()),
     }
 }

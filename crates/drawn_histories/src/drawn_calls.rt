@@ -1,4 +1,4 @@
-// A call chosen by drawn numbers. All eight occur, and steps most often, so that work comes to its end.
+// A call chosen by drawn numbers. All nine occur, and steps and turns most often, so that work comes to its end.
 use crate::numbers::Draws;
 use crate::numbers::joined;
 use crate::numbers::upper;
@@ -24,7 +24,8 @@ pub(crate) fn drawn_call(draws: Draws, points: u32) -> Call {
             point: point,
         },
         22 | 23 => Call::StartWalk { reader: reader },
-        24..=49 => Call::StepWriter,
+        24..=39 => Call::StepWriter,
+        40..=51 => Call::Turn,
         _ => Call::StepReader { reader: reader },
     }
 }

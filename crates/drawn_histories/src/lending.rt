@@ -4,6 +4,7 @@ use calls::Call;
 use calls::outcomes::entered;
 use calls::outcomes::started;
 use calls::outcomes::stepped;
+use calls::outcomes::turned;
 use lent_record::start_change;
 use lent_record::start_command;
 use lent_record::start_lookup;
@@ -12,6 +13,7 @@ use lent_record::start_removal;
 use lent_record::start_walk;
 use lent_record::step_reader;
 use lent_record::step_writer;
+use lent_record::turn;
 use record::Record;
 
 pub(crate) fn lent(panel: Record, slots: &mut [u64], call: Call, frame: &[u8]) -> CallOutcome {
@@ -19,6 +21,7 @@ pub(crate) fn lent(panel: Record, slots: &mut [u64], call: Call, frame: &[u8]) -
         Call::StartLookup { reader, point } => started(start_lookup(panel, slots, reader, point)),
         Call::StartWalk { reader } => started(start_walk(panel, slots, reader)),
         Call::StepReader { reader } => stepped(step_reader(panel, slots, reader)),
+        Call::Turn => turned(turn(panel, slots)),
         _ => lent_to_writer(panel, slots, call, frame),
     }
 }

@@ -18,7 +18,8 @@ pub(crate) fn state_folded(digest: Digest, panel: Record, slots: &[u64]) -> Dige
     let writer = panel.writer;
     let work = writer.work;
     let sizes = three_folded(slots_folded(digest, slots), panel.m, panel.k, panel.reach);
-    let counted = writer_work_folded(counts_folded(sizes, panel), work);
+    let placed = folded(sizes, panel.place);
+    let counted = writer_work_folded(counts_folded(placed, panel), work);
     stations_folded(readers_folded(counted, panel), panel)
 }
 

@@ -19,8 +19,20 @@ pub(crate) fn answer_text(filled: usize, out: &mut [u8], answer: CallAnswer) -> 
             stored_text(text(filled, out, b"given again: "), out, stored)
         }
         CallAnswer::Stepped(result) => result_text(filled, out, result),
+        CallAnswer::Served { party, result } => {
+            result_text(party_text(filled, out, party), out, result)
+        }
         CallAnswer::Refused(refusal) => refused_text(filled, out, refusal),
     }
+}
+
+// The party that a turn served: 0 is the writer, n + 1 reader n.
+fn party_text(filled: usize, out: &mut [u8], party: u32) -> usize {
+    if party == 0 {
+        return text(filled, out, b"writer: ");
+    }
+    let named = number(text(filled, out, b"reader"), out, party - 1);
+    text(named, out, b": ")
 }
 
 fn result_text(filled: usize, out: &mut [u8], result: StepResult) -> usize {

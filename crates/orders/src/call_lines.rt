@@ -59,6 +59,7 @@ fn call_text(filled: usize, out: &mut [u8], call: Call, frame: &[u8]) -> usize {
         Call::StartRemoval { point } => one_number(filled, out, b" remove", point),
         Call::StartCommand => frame_text(text(filled, out, b" command"), out, frame),
         Call::StepWriter => text(filled, out, b" step writer"),
+        Call::Turn => text(filled, out, b" turn"),
     }
 }
 

@@ -167,6 +167,7 @@ fn show_panel(now: Run, slots: &[u64], words: &[u64], places: &[u32], out: &mut 
         out,
         now.number,
         panel.reach,
+        panel.place,
         &slots[..lent],
         words,
         places,

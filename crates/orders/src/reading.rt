@@ -27,6 +27,7 @@ enum Form {
     StartWalk,
     StepReader,
     StepWriter,
+    Turn,
     Put,
     Change,
     Remove,
@@ -74,6 +75,9 @@ fn form_at(line: &[u8], at: usize) -> Form {
     }
     if is_word(line, at, b"step") {
         return step_form(line, second_word(line, at));
+    }
+    if is_word(line, at, b"turn") {
+        return Form::Turn;
     }
     if is_word(line, at, b"panel") {
         return Form::Panel;
@@ -190,6 +194,7 @@ fn order_with(form: Form, n: [u32; 3]) -> Order {
         Form::StartWalk => Order::Call(Call::StartWalk { reader: n[0] }, 0),
         Form::StepReader => Order::Call(Call::StepReader { reader: n[0] }, 0),
         Form::StepWriter => Order::Call(Call::StepWriter, 0),
+        Form::Turn => Order::Call(Call::Turn, 0),
         Form::Put => Order::Call(
             Call::StartPut {
                 point: n[0],

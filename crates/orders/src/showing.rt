@@ -1,6 +1,7 @@
-// `show`: the slots with the plain list beside them, and the reach.
+// `show`: the slots with the plain list beside them, the reach and the place in the circle.
 use crate::answer_texts::reach_text;
 use crate::answer_texts::word_text;
+use crate::output::number;
 use crate::output::room;
 use conditions::both_hold;
 use rows_shown::do_show;
@@ -14,6 +15,7 @@ pub(crate) fn show(
     out: &mut [u8],
     line: u64,
     reach: u32,
+    place: u32,
     slots: &[u64],
     words: &[u64],
     places: &[u32],
@@ -23,7 +25,8 @@ pub(crate) fn show(
     let named = line_end(text(numbered, out, b" show"), out);
     let listed = slot_lines(named, out, slots, words, places, rows);
     let reached = reach_line(listed, out, reach);
-    verdict_line(reached, out, do_show(slots, words, places, rows))
+    let placed = place_line(reached, out, place);
+    verdict_line(placed, out, do_show(slots, words, places, rows))
 }
 
 // A line for each slot that holds a word or is some row's place, and one with the number of the others.
@@ -90,6 +93,11 @@ fn empty_line(filled: usize, out: &mut [u8], empty: u64) -> usize {
 fn reach_line(filled: usize, out: &mut [u8], reach: u32) -> usize {
     let begun = text(room(filled, out), out, b"  ");
     line_end(reach_text(begun, out, reach), out)
+}
+
+fn place_line(filled: usize, out: &mut [u8], place: u32) -> usize {
+    let named = text(room(filled, out), out, b"  place");
+    line_end(number(named, out, place), out)
 }
 
 fn verdict_line(filled: usize, out: &mut [u8], shows: bool) -> usize {

@@ -1,7 +1,7 @@
 -- What is kept is the world of `history`: the laws by which a call carried out keeps it so.
 use Prim.Native.Nat.{ℕ, zero, suc, _+_, _≤_}
 use mathlib.Core.Bool.{Bool, true, false, cond, not, false≢true}
-use mathlib.Core.List.{List, []}
+use mathlib.Core.List.{List, [], _∷_}
 use mathlib.Core.Path.{_≡_, refl, sym, ap, ap₂, subst, _∙_}
 use native.Mathlib.Omega.{arith}
 use borrow.Author.Tests.{eqb-true, ne-eqb, not-false}
@@ -13,7 +13,9 @@ use Rattle.refusal.proofs.Laws.{not-refused, number-positive}
 use Rattle.record.specs.declared.Record.{Record}
 use Rattle.record.specs.Parts.{freshRecord}
 use Rattle.record_ranges.specs.Ranges.{inRange}
-use Rattle.answers.specs.Answers.{Answer, started, underway, ended, walked, walkedLast, givenAgain, gives, refused, hasEnded, isStarted, isRefused, paperCall, Outcome, outcome, unlessRefused}
+use Rattle.answers.specs.declared.StepResult.{StepResult}
+use Rattle.answers.specs.declared.StepResult.the-variants.{Underway as StepResult·Underway, Ended as StepResult·Ended, Walked, WalkedLast}
+use Rattle.answers.specs.Answers.{Answer, started, underway, ended, walked, walkedLast, served, givenAgain, gives, refused, hasEnded, isStarted, isRefused, paperResult, paperCall, Outcome, outcome, unlessRefused}
 use Rattle.plain_list.specs.PlainList.{Rows, Operation, nothing, feed, Shows}
 use Rattle.plain_list.proofs.Agreement.{Agrees, shows}
 use Rattle.plain_rows.specs.declared.Operation.{Operation as OperationFed}
@@ -31,21 +33,42 @@ use Rattle.frame.specs.Frames.{fieldsIn, readRefusal, handed, readFrame}
 use Rattle.frame.specs.Answers.{paperRead}
 use Rattle.command.specs.Command.{sentOf, sentIn, frameRefusal, entryRefusal, startCommand}
 use Rattle.calls.specs.declared.Call.{Call}
-use Rattle.calls.specs.declared.Call.the-variants.{StartLookup, StartWalk, StepReader, StartPut, StartChange, StartRemoval, StartCommand, StepWriter}
+use Rattle.calls.specs.declared.Call.the-variants.{StartLookup, StartWalk, StepReader, StartPut, StartChange, StartRemoval, StartCommand, StepWriter, Turn}
 use Rattle.calls.specs.Calls.{applied}
-use Rattle.history.specs.Log.{Writing, writing, Role, readerStart, readerStep, writerStart, writerStep, roleOf, writingAfter, logAfter, freshLog}
+use Rattle.history.specs.Log.{Writing, writing, Role, readerStart, readerStep, writerStart, writerStep, servedBy, servedRole, roleOf, writingAfter, logAfter, freshLog}
 use Rattle.history.specs.World.{noWriterNotes, World, storesNow, endsNow, feedsNow, toldNow, rowsNow, steppedWriter, writerStepped, writerNow, noted, outcomeOf, next, freshWorld}
 use Rattle.history.specs.Claim.{ArgumentsFit}
-use Rattle.history.proofs.Invariant.{Inv, fresh-inv}
-use Rattle.history.proofs.Theorem.{call-keeps}
+use Rattle.history.proofs.Invariant.{Inv}
+use Rattle.history.proofs.Theorem.{Along, fresh-along, call-keeps}
 use Rattle.panel_and_list.specs.declared.Notes.{Notes}
 use Rattle.panel_and_list.specs.declared.PanelState.{PanelState}
 use Rattle.panel_and_list.specs.declared.Carried.{Carried}
-use Rattle.panel_and_list.specs.Kept.{openedState, isWriterStep, feedsAfter, rowsAfter, notesBegun, notesStepped, fedAfter, Listed, NotesAfter, CallOnBoth, NotesKept, Keeps, Reached, begun, called, request}
+use Rattle.panel_and_list.specs.Kept.{openedState, servesWriter, isWriterStep, feedsAfter, rowsAfter, notesBegun, notesStepped, fedAfter, Listed, NotesAfter, CallOnBoth, NotesKept, Keeps, Reached, begun, called, request}
 
--- a call stores or ends only as a step of the writer
+-- a step by itself has served nobody
+pub result-serves-none : (result : StepResult) → servedBy (paperResult result) ≡ []
+result-serves-none StepResult·Underway = refl
+result-serves-none (StepResult·Ended ending) = refl
+result-serves-none (Walked word) = refl
+result-serves-none (WalkedLast word) = refl
+
+-- a turn stores or ends only as a step of the writer
+module _ (panel : Record) (answer : Answer) where
+  stores-served : (parties : List ℕ) → both (servesWriter parties) (both (not (isRefused answer)) (storesSlot (writerAccess panel (panel .writer .work)))) ≡ storesNow panel answer (servedRole parties)
+  unfolding storesNow both
+  stores-served [] = refl
+  stores-served (zero ∷ rest) = refl
+  stores-served (suc reader ∷ rest) = rw (ne-eqb (suc reader) 0 (omega arith))
+
+ends-served : (answer : Answer) (parties : List ℕ) → both (servesWriter parties) (hasEnded answer) ≡ endsNow answer (servedRole parties)
+unfolding endsNow both
+ends-served answer [] = refl
+ends-served answer (zero ∷ rest) = refl
+ends-served answer (suc reader ∷ rest) = rw (ne-eqb (suc reader) 0 (omega arith))
+
+-- and so does any call
 module _ (panel : Record) (answer : Answer) (frame : List ℕ) where
-  pub stores-by-step : (call : Call) → both (isWriterStep call) (both (not (isRefused answer)) (storesSlot (writerAccess panel (panel .writer .work)))) ≡ storesNow panel answer (roleOf call frame)
+  pub stores-by-step : (call : Call) → both (isWriterStep call answer) (both (not (isRefused answer)) (storesSlot (writerAccess panel (panel .writer .work)))) ≡ storesNow panel answer (roleOf call frame answer)
   unfolding storesNow roleOf both
   stores-by-step (StartLookup reader point) = refl
   stores-by-step (StartWalk reader) = refl
@@ -55,9 +78,10 @@ module _ (panel : Record) (answer : Answer) (frame : List ℕ) where
   stores-by-step (StartRemoval point) = refl
   stores-by-step StartCommand = refl
   stores-by-step StepWriter = refl
+  stores-by-step Turn = stores-served panel answer (servedBy answer)
 
 module _ (answer : Answer) (frame : List ℕ) where
-  pub ends-by-step : (call : Call) → both (isWriterStep call) (hasEnded answer) ≡ endsNow answer (roleOf call frame)
+  pub ends-by-step : (call : Call) → both (isWriterStep call answer) (hasEnded answer) ≡ endsNow answer (roleOf call frame answer)
   unfolding endsNow roleOf both
   ends-by-step (StartLookup reader point) = refl
   ends-by-step (StartWalk reader) = refl
@@ -67,6 +91,7 @@ module _ (answer : Answer) (frame : List ℕ) where
   ends-by-step (StartRemoval point) = refl
   ends-by-step StartCommand = refl
   ends-by-step StepWriter = refl
+  ends-by-step Turn = ends-served answer (servedBy answer)
 
 twice-not : (b : Bool) → not (not b) ≡ b
 twice-not true = refl
@@ -93,6 +118,7 @@ refused-feeds world underway e = absurd (false≢true e)
 refused-feeds world (ended ending) e = absurd (false≢true e)
 refused-feeds world (walked word) e = absurd (false≢true e)
 refused-feeds world (walkedLast word) e = absurd (false≢true e)
+refused-feeds world (served party answer) e = refused-feeds world answer e
 refused-feeds world (givenAgain ending) e = absurd (false≢true e)
 refused-feeds world (gives values) e = absurd (false≢true e)
 refused-feeds world (refused n) e = refl
@@ -103,6 +129,7 @@ ended-not-refused underway e = refl
 ended-not-refused (ended ending) e = refl
 ended-not-refused (walked word) e = refl
 ended-not-refused (walkedLast word) e = refl
+ended-not-refused (served party answer) e = ended-not-refused answer e
 ended-not-refused (givenAgain ending) e = refl
 ended-not-refused (gives values) e = refl
 ended-not-refused (refused n) e = absurd (false≢true e)
@@ -124,6 +151,18 @@ module _ (notes : Notes) (feeds : Bool) (answer : Answer) (after : Notes) where
       go : (ends : Bool) → after ≡ cond ends (record { asked = Nothing; fed = false }) (record { asked = notes .asked; fed = either (notes .fed) feeds }) → (operationOf (after .asked) ≡ cond ends (writing nothing []) (writing (operationOf (notes .asked)) []) .operation) × (after .fed ≡ cond ends false (either (notes .fed) feeds))
       go true e = (ap (λ (n : Notes). operationOf (n .asked)) e, ap (λ (n : Notes). n .fed) e)
       go false e = (ap (λ (n : Notes). operationOf (n .asked)) e, ap (λ (n : Notes). n .fed) e)
+
+-- the notes after a turn: where it has not served the writer, they stay
+pub passed-noted : (notes : Notes) (feeds : Bool) (answer : Answer) (parties : List ℕ) → servesWriter parties ≡ false → NotesAfter notes feeds answer (servedRole parties) notes
+unfolding writingAfter fedAfter
+passed-noted notes feeds answer [] e = record { asked = refl; fed = refl }
+passed-noted notes feeds answer (zero ∷ rest) e = absurd (false≢true (sym e))
+passed-noted notes feeds answer (suc reader ∷ rest) e = record { asked = refl; fed = refl }
+
+pub served-writer : (parties : List ℕ) → servesWriter parties ≡ true → servedRole parties ≡ writerStep
+served-writer [] e = absurd (false≢true e)
+served-writer (zero ∷ rest) e = refl
+served-writer (suc reader ∷ rest) e = absurd (omega (arith, eqb-true (suc reader) 0 e))
 
 -- the operation underway after a call goes by the operation before it
 operation-after : (operation : Operation) (work : Writing) (answer : Answer) → operation ≡ work .operation → (role : Role) → writingAfter (writing operation []) role answer .operation ≡ writingAfter work role answer .operation
@@ -206,23 +245,23 @@ module _ (before : PanelState) (slots words places : List ℕ) (call : Call) (fr
   started-command e command s =
       started-frame (before .panel) slots frame (ap isStarted (sym (e ∙ ap (λ (x : Call). applied (before .panel) slots x frame .answer) command)) ∙ s)
 
-  pub carried-out : {feeds : Bool} → feeds ≡ feedsAfter (before .panel) (before .notes .fed) given (roleOf call frame) → outcome (carried .state .panel) slots′ given ≡ applied (before .panel) slots call frame → Listed words places words′ places′ (carried .state .rows) (rowsAfter (before .panel) feeds (operationOf (before .notes .asked)) words places (before .rows)) → ((call ≡ StartCommand → isStarted given ≡ true → frameRefusal frame ≡ 0) → NotesAfter (before .notes) feeds given (roleOf call frame) (carried .state .notes)) → CallOnBoth before slots words places call frame carried slots′ words′ places′
+  pub carried-out : {feeds : Bool} → feeds ≡ feedsAfter (before .panel) (before .notes .fed) given (roleOf call frame given) → outcome (carried .state .panel) slots′ given ≡ applied (before .panel) slots call frame → Listed words places words′ places′ (carried .state .rows) (rowsAfter (before .panel) feeds (operationOf (before .notes .asked)) words places (before .rows)) → ((call ≡ StartCommand → isStarted given ≡ true → frameRefusal frame ≡ 0) → NotesAfter (before .notes) feeds given (roleOf call frame given) (carried .state .notes)) → CallOnBoth before slots words places call frame carried slots′ words′ places′
   carried-out feeding done listed noted =
       record {
         done = done;
         listed = subst (λ (b : Bool). Listed words places words′ places′ (carried .state .rows) (rowsAfter (before .panel) b (operationOf (before .notes .asked)) words places (before .rows))) feeding listed;
-        noted = subst (λ (b : Bool). NotesAfter (before .notes) b given (roleOf call frame) (carried .state .notes)) feeding (noted (started-command (ap (λ (o : Outcome). o .answer) done)));
+        noted = subst (λ (b : Bool). NotesAfter (before .notes) b given (roleOf call frame given) (carried .state .notes)) feeding (noted (started-command (ap (λ (o : Outcome). o .answer) done)));
       }
 
--- a world that a list of calls leads to has the invariant
-own : (m k : ℕ) (world : World) → Inv m k world → Inv (world .panel .m) (world .panel .k) world
-own m k world inv =
-    subst (λ (x : ℕ). Inv x (world .panel .k) world) (sym (inv .m-is)) (subst (λ (x : ℕ). Inv m x world) (sym (inv .k-is)) inv)
+-- a world that a list of calls leads to has what holds all along
+own : (m k : ℕ) (world : World) → Along m k world → Along (world .panel .m) (world .panel .k) world
+own m k world along =
+    subst (λ (x : ℕ). Along x (world .panel .k) world) (sym (along .inv .m-is)) (subst (λ (x : ℕ). Along m x world) (sym (along .inv .k-is)) along)
 
-reached-inv : {world : World} → Reached world → Inv (world .panel .m) (world .panel .k) world
-reached-inv (begun m k m-low m-high k-low k-high) = own m k (freshWorld m k) (fresh-inv m k m-low m-high k-low k-high)
-reached-inv (called {world} reached request fit) =
-    own (world .panel .m) (world .panel .k) (next world request) (call-keeps (world .panel .m) (world .panel .k) world request (reached-inv reached) fit)
+reached-along : {world : World} → Reached world → Along (world .panel .m) (world .panel .k) world
+reached-along (begun m k m-low m-high k-low k-high) = own m k (freshWorld m k) (fresh-along m k m-low m-high k-low k-high)
+reached-along (called {world} reached request fit) =
+    own (world .panel .m) (world .panel .k) (next world request) (call-keeps (world .panel .m) (world .panel .k) world request (reached-along reached) fit)
 
 -- a fresh panel of which nothing was asked
 pub opened-kept : (m k : ℕ) (words places : List ℕ) → m ≤ length words → m ≤ length places → Keeps (freshWorld m k) (openedState (freshRecord m k)) (freshWorld m k .slots) words places
@@ -246,7 +285,7 @@ module _ (world : World) (reached : Reached world) (before : PanelState) (slots 
   k = world .panel .k
 
   inv : Inv m k world
-  inv = reached-inv reached
+  inv = reached-along reached .inv
 
   agrees : Agrees m k (world .panel .reach) (world .panel .counts) (world .slots) (rowsOf words places (before .rows))
   agrees = subst (λ (rows : Rows). Agrees m k (world .panel .reach) (world .panel .counts) (world .slots) rows) (sym (keeps .rows)) (inv .agrees)
@@ -270,7 +309,7 @@ module _ (world : World) (reached : Reached world) (before : PanelState) (slots 
   -- a call carried out
   module _ (call : Call) (frame : List ℕ) (carried : Carried) (slots′ words′ places′ : List ℕ) (fit : ArgumentsFit call) (out : CallOnBoth before slots words places call frame carried slots′ words′ places′) where
     abbrev role : Role
-    role = roleOf call frame
+    role = roleOf call frame (paperCall (carried .answer))
 
     abbrev answer : Answer
     answer = paperCall (carried .answer)
@@ -300,7 +339,7 @@ module _ (world : World) (reached : Reached world) (before : PanelState) (slots 
     unfolding next noted
     whole =
         ap (λ (o : Outcome). length (o .slots)) same
-        ∙ call-keeps m k world (request call frame) inv fit .agrees .whole
+        ∙ call-keeps m k world (request call frame) (reached-along reached) fit .inv .agrees .whole
         ∙ sym as-long
 
     -- what is kept then is the world after it
@@ -310,8 +349,8 @@ module _ (world : World) (reached : Reached world) (before : PanelState) (slots 
         record {
           panel = ap (λ (o : Outcome). o .panel) same;
           slots-kept = ap (λ (o : Outcome). o .slots) same;
-          rows = out .listed .shown ∙ rows-now ∙ ap (λ (a : Answer). rowsNow world a role) answers;
-          notes = subst (λ (a : Answer). NotesKept (carried .state .notes) (writingAfter (world .log .writer) role a) (writerNow world a role)) answers (notes-kept world answer role (before .notes) (carried .state .notes) (keeps .notes) noted-now);
+          rows = out .listed .shown ∙ rows-now ∙ ap (λ (a : Answer). rowsNow world a (roleOf call frame a)) answers;
+          notes = subst (λ (a : Answer). NotesKept (carried .state .notes) (writingAfter (world .log .writer) (roleOf call frame a) a) (writerNow world a (roleOf call frame a))) answers (notes-kept world answer role (before .notes) (carried .state .notes) (keeps .notes) noted-now);
           words-room = omega (arith, out .listed .words-stay .size, keeps .words-room, whole);
           places-room = omega (arith, out .listed .places-stay .size, keeps .places-room, whole);
         }

@@ -1,7 +1,7 @@
 -- What is kept beside the panel: the plain list of `history`'s world, and of its notes what says when the list is fed, and with what.
 use Prim.Native.Nat.{ℕ, _≤_}
 use mathlib.Core.Bool.{Bool, true, false, cond, not}
-use mathlib.Core.List.{List, []}
+use mathlib.Core.List.{List, [], _∷_}
 use mathlib.Core.Path.{_≡_}
 use lib.Dec.{eqb}
 use lib.ListN.{length}
@@ -14,9 +14,9 @@ use Rattle.plain_rows.specs.declared.Operation.the-variants.{Nothing}
 use Rattle.plain_rows.specs.Rows.{rowsOf, SameFrom}
 use Rattle.plain_rows.specs.Fed.{operationOf, fedRows}
 use Rattle.calls.specs.declared.Call.{Call}
-use Rattle.calls.specs.declared.Call.the-variants.{StartLookup, StartWalk, StepReader, StartPut, StartChange, StartRemoval, StartCommand, StepWriter}
+use Rattle.calls.specs.declared.Call.the-variants.{StartLookup, StartWalk, StepReader, StartPut, StartChange, StartRemoval, StartCommand, StepWriter, Turn}
 use Rattle.calls.specs.Calls.{applied}
-use Rattle.history.specs.Log.{Request, Writing, writing, Role, readerStart, readerStep, writerStart, writerStep, roleOf, writingAfter}
+use Rattle.history.specs.Log.{Request, Writing, writing, Role, readerStart, readerStep, writerStart, writerStep, servedBy, roleOf, writingAfter}
 use Rattle.history.specs.World.{WriterNotes, World, storesNow, endsNow, next, freshWorld}
 use Rattle.history.specs.Claim.{ArgumentsFit}
 use Rattle.panel_and_list.specs.declared.Notes.{Notes}
@@ -27,16 +27,22 @@ use Rattle.panel_and_list.specs.declared.Carried.{Carried}
 unfoldable pub openedState : Record → PanelState
 openedState panel = record { panel = panel; notes = record { asked = Nothing; fed = false }; rows = 0 }
 
+-- a turn has served the writer
+abbrev pub servesWriter : List ℕ → Bool
+servesWriter [] = false
+servesWriter (party ∷ rest) = eqb party 0
+
 -- the call is a step of the writer
-abbrev pub isWriterStep : Call → Bool
-isWriterStep (StartLookup reader point) = false
-isWriterStep (StartWalk reader) = false
-isWriterStep (StepReader reader) = false
-isWriterStep (StartPut point value) = false
-isWriterStep (StartChange point keep flip) = false
-isWriterStep (StartRemoval point) = false
-isWriterStep StartCommand = false
-isWriterStep StepWriter = true
+abbrev pub isWriterStep : Call → Answer → Bool
+isWriterStep (StartLookup reader point) answer = false
+isWriterStep (StartWalk reader) answer = false
+isWriterStep (StepReader reader) answer = false
+isWriterStep (StartPut point value) answer = false
+isWriterStep (StartChange point keep flip) answer = false
+isWriterStep (StartRemoval point) answer = false
+isWriterStep StartCommand answer = false
+isWriterStep StepWriter answer = true
+isWriterStep Turn answer = servesWriter (servedBy answer)
 
 -- "fed whole at its step that stores the slot, or at its last if it stores none": `feedsNow` of an operation that has fed the list or has not
 unfoldable pub feedsAfter : Record → Bool → Answer → Role → Bool
@@ -77,8 +83,8 @@ pub record NotesAfter (before : Notes) (feeds : Bool) (answer : Answer) (role : 
 -- what a call comes to: panel, slots and answer as `apply` has them, the list fed or not, and the notes
 pub record CallOnBoth (before : PanelState) (slots words places : List ℕ) (call : Call) (frame : List ℕ) (carried : Carried) (slots′ words′ places′ : List ℕ) : Type 0 where
   pub done : outcome (carried .state .panel) slots′ (paperCall (carried .answer)) ≡ applied (before .panel) slots call frame
-  pub listed : Listed words places words′ places′ (carried .state .rows) (rowsAfter (before .panel) (feedsAfter (before .panel) (before .notes .fed) (paperCall (carried .answer)) (roleOf call frame)) (operationOf (before .notes .asked)) words places (before .rows))
-  pub noted : NotesAfter (before .notes) (feedsAfter (before .panel) (before .notes .fed) (paperCall (carried .answer)) (roleOf call frame)) (paperCall (carried .answer)) (roleOf call frame) (carried .state .notes)
+  pub listed : Listed words places words′ places′ (carried .state .rows) (rowsAfter (before .panel) (feedsAfter (before .panel) (before .notes .fed) (paperCall (carried .answer)) (roleOf call frame (paperCall (carried .answer)))) (operationOf (before .notes .asked)) words places (before .rows))
+  pub noted : NotesAfter (before .notes) (feedsAfter (before .panel) (before .notes .fed) (paperCall (carried .answer)) (roleOf call frame (paperCall (carried .answer)))) (paperCall (carried .answer)) (roleOf call frame (paperCall (carried .answer))) (carried .state .notes)
 
 -- the notes keep what the log and the world's notes have of the writer's operation
 pub record NotesKept (notes : Notes) (underway : Writing) (writer : WriterNotes) : Type 0 where

@@ -1,6 +1,8 @@
 // What an answer tells of the operation.
 ghost use mathlib.Core.Path.{_≡_};
 ghost use Rattle.answers.specs.Answers.{paperResult, paperCall, hasEnded, isRefused, isStarted};
+ghost use Rattle.history.specs.Log.{servedBy};
+ghost use Rattle.panel_and_list.specs.Kept.{servesWriter};
 use answers::CallAnswer;
 use answers::StepResult;
 
@@ -12,6 +14,7 @@ pub(crate) fn has_ended(answer: CallAnswer) -> bool
         CallAnswer::Started => false,
         CallAnswer::GivenAgain(_) => false,
         CallAnswer::Stepped(result) => has_ended_by(result),
+        CallAnswer::Served { party: _, result } => has_ended_by(result),
         CallAnswer::Refused(_) => false,
     }
 }
@@ -35,6 +38,10 @@ pub(crate) fn is_refused(answer: CallAnswer) -> bool
         CallAnswer::Started => false,
         CallAnswer::GivenAgain(_) => false,
         CallAnswer::Stepped(_) => false,
+        CallAnswer::Served {
+            party: _,
+            result: _,
+        } => false,
         CallAnswer::Refused(_) => true,
     }
 }
@@ -47,6 +54,23 @@ pub(crate) fn is_started(answer: CallAnswer) -> bool
         CallAnswer::Started => true,
         CallAnswer::GivenAgain(_) => false,
         CallAnswer::Stepped(_) => false,
+        CallAnswer::Served {
+            party: _,
+            result: _,
+        } => false,
+        CallAnswer::Refused(_) => false,
+    }
+}
+
+// A turn has served the writer.
+pub(crate) fn serves_writer(answer: CallAnswer) -> bool
+    ensures { λ r. ⌜ r ≡ servesWriter (servedBy (paperCall answer)) ⌝ }
+{
+    match answer {
+        CallAnswer::Started => false,
+        CallAnswer::GivenAgain(_) => false,
+        CallAnswer::Stepped(_) => false,
+        CallAnswer::Served { party, result: _ } => party == 0,
         CallAnswer::Refused(_) => false,
     }
 }

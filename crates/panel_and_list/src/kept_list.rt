@@ -11,13 +11,14 @@ ghost use Rattle.effects.specs.Memory.{storesSlot};
 ghost use Rattle.change.specs.Change.{actionMasks};
 ghost use Rattle.command.specs.Command.{sentIn, frameRefusal};
 ghost use Rattle.calls.specs.declared.Call.the-variants.{StartCommand};
-ghost use Rattle.history.specs.Log.{asChange, roleOf};
+ghost use Rattle.history.specs.Log.{asChange, servedBy, servedRole, roleOf};
 ghost use Rattle.history.specs.World.{storesNow, endsNow};
 ghost use Rattle.panel_and_list.specs.Kept.{isWriterStep, feedsAfter, notesBegun, notesStepped, NotesAfter, rowsAfter, Listed};
 use crate::Notes;
 use crate::answer_kinds::has_ended;
 use crate::answer_kinds::is_refused;
 use crate::answer_kinds::is_started;
+use crate::answer_kinds::serves_writer;
 use answers::CallAnswer;
 use calls::Call;
 use change::action_masks;
@@ -32,7 +33,7 @@ use writer::writer_access;
 
 // The call feeds the list. `fed`: the writer's operation has fed it before.
 pub(crate) fn feeds_now(panel: Record, fed: bool, answer: CallAnswer, call: Call) -> bool
-    ensures { λ r. ⌜ ((frame : List ℕ) → r ≡ feedsAfter panel fed (paperCall answer) (roleOf call frame)) ⌝ }
+    ensures { λ r. ⌜ ((frame : List ℕ) → r ≡ feedsAfter panel fed (paperCall answer) (roleOf call frame (paperCall answer))) ⌝ }
 {
     let stores = stores_now(panel, answer, call);
     let ends = ends_now(answer, call);
@@ -41,25 +42,25 @@ pub(crate) fn feeds_now(panel: Record, fed: bool, answer: CallAnswer, call: Call
 
 // The call is a step of the writer that stores a slot.
 fn stores_now(panel: Record, answer: CallAnswer, call: Call) -> bool
-    ensures { λ r. ⌜ ((frame : List ℕ) → r ≡ storesNow panel (paperCall answer) (roleOf call frame)) ⌝ }
+    ensures { λ r. ⌜ ((frame : List ℕ) → r ≡ storesNow panel (paperCall answer) (roleOf call frame (paperCall answer))) ⌝ }
 {
     let writer = panel.writer;
     let work = writer.work;
     let counts = panel.counts;
     let access = writer_access(panel.m, panel.k, panel.reach, &counts, work);
     let stores = both_hold(!is_refused(answer), stores_slot(access));
-    both_hold(is_writer_step(call), stores)
+    both_hold(is_writer_step(call, answer), stores)
 }
 
 // The call is the last step of the writer's operation.
 fn ends_now(answer: CallAnswer, call: Call) -> bool
-    ensures { λ r. ⌜ ((frame : List ℕ) → r ≡ endsNow (paperCall answer) (roleOf call frame)) ⌝ }
+    ensures { λ r. ⌜ ((frame : List ℕ) → r ≡ endsNow (paperCall answer) (roleOf call frame (paperCall answer))) ⌝ }
 {
-    both_hold(is_writer_step(call), has_ended(answer))
+    both_hold(is_writer_step(call, answer), has_ended(answer))
 }
 
-fn is_writer_step(call: Call) -> bool
-    ensures { λ r. ⌜ r ≡ isWriterStep call ⌝ }
+fn is_writer_step(call: Call, answer: CallAnswer) -> bool
+    ensures { λ r. ⌜ r ≡ isWriterStep call (paperCall answer) ⌝ }
 {
     match call {
         Call::StartLookup {
@@ -77,6 +78,7 @@ fn is_writer_step(call: Call) -> bool
         Call::StartRemoval { point: _ } => false,
         Call::StartCommand => false,
         Call::StepWriter => true,
+        Call::Turn => serves_writer(answer),
     }
 }
 
@@ -116,7 +118,7 @@ pub(crate) fn notes_now(
     call: Call,
     frame: &[u8],
 ) -> Notes
-    ensures { λ r. ⌜ ((call ≡ StartCommand → isStarted (paperCall answer) ≡ true → frameRefusal (now (frame .entry)) ≡ 0) → NotesAfter notes feeds (paperCall answer) (roleOf call (now (frame .entry))) r) ⌝ }
+    ensures { λ r. ⌜ ((call ≡ StartCommand → isStarted (paperCall answer) ≡ true → frameRefusal (now (frame .entry)) ≡ 0) → NotesAfter notes feeds (paperCall answer) (roleOf call (now (frame .entry)) (paperCall answer)) r) ⌝ }
 {
     match call {
         Call::StartLookup {
@@ -145,7 +147,18 @@ pub(crate) fn notes_now(
         Call::StartRemoval { point } => begun(notes, answer, Operation::Removal { point: point }),
         Call::StartCommand => begun(notes, answer, commanded(frame)),
         Call::StepWriter => stepped(notes, feeds, answer),
+        Call::Turn => turned(notes, feeds, answer),
     }
+}
+
+// A turn that serves the writer is its step; another leaves the notes.
+fn turned(notes: Notes, feeds: bool, answer: CallAnswer) -> Notes
+    ensures { λ r. ⌜ NotesAfter notes feeds (paperCall answer) (servedRole (servedBy (paperCall answer))) r ⌝ }
+{
+    if serves_writer(answer) {
+        return stepped(notes, feeds, answer);
+    }
+    notes
 }
 
 // An operation that has been started is noted; a refused start leaves the notes.

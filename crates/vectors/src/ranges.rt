@@ -25,6 +25,7 @@ use record::Walk;
 use record::WriterWork;
 use record::parts::fresh_record;
 use record::parts::with_count;
+use record::parts::with_place;
 use record::parts::with_reach;
 use record::parts::with_station;
 use record::parts::with_work;
@@ -36,6 +37,8 @@ enum Altered {
     M(u32),
     K(u32),
     Reach(u32),
+    // the place in the circle
+    Circle(u32),
     // index and count
     Count(u32, u32),
     // reader and point of a lookup that has not read the reach
@@ -62,7 +65,7 @@ enum Altered {
     Station(u32, u32, u32, u32),
 }
 
-const CASES: [Altered; 63] = [
+const CASES: [Altered; 65] = [
     Altered::M(8),
     Altered::M(0),
     Altered::M(7),
@@ -74,6 +77,8 @@ const CASES: [Altered; 63] = [
     Altered::K(65),
     Altered::Reach(4),
     Altered::Reach(5),
+    Altered::Circle(16),
+    Altered::Circle(17),
     Altered::Count(1, 8),
     Altered::Count(1, 9),
     Altered::Count(4, 9),
@@ -129,7 +134,7 @@ const CASES: [Altered; 63] = [
 ];
 
 pub(crate) fn run() {
-    for row in 0..63u32 {
+    for row in 0..65u32 {
         judged(row, CASES[row as usize]);
     }
 }
@@ -152,6 +157,7 @@ fn record_with(altered: Altered) -> Record {
         Altered::M(m) => fresh_record(m, 4),
         Altered::K(k) => fresh_record(8, k),
         Altered::Reach(reach) => with_reach(panel, reach),
+        Altered::Circle(place) => with_place(panel, place),
         Altered::Count(index, count) => with_count(panel, index, count),
         Altered::Lookup(reader, point) => with_work(panel, reader, lookup(point, Search::Unread)),
         Altered::Probe(reach, next) => with_work(panel, 0, lookup(1, probing(reach, next))),

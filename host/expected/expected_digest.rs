@@ -7,6 +7,7 @@ use crate::reference_record::{
     Alteration, ChangeStage, Place, PutStage, Reader, Record, RemovalStage, Search, Station, Writer,
 };
 use crate::reference_table::{point_of, value_of, Step};
+use crate::reference_turn::Served;
 use crate::reference_writer::WriterStep;
 
 pub struct Digest {
@@ -37,7 +38,7 @@ impl Digest {
         for &word in slots {
             self.add(&[point_of(word), value_of(word)]);
         }
-        self.add(&[record.m, record.k, record.reach]);
+        self.add(&[record.m, record.k, record.reach, record.place]);
         self.add(&record.counts);
         self.add(&writer_numbers(record.writer));
         for &reader in &record.readers {
@@ -56,10 +57,22 @@ fn answer_numbers(answer: Answer) -> Vec<u32> {
         Answer::Entry(Ok(Entry::GivenAgain(stored))) => [vec![16], kept_numbers(stored)].concat(),
         Answer::Reader(Ok(step)) => reader_step_numbers(step),
         Answer::Writer(Ok(step)) => writer_step_numbers(step),
+        Answer::Turn(Ok(served)) => turn_numbers(served),
         Answer::Start(Err(refusal))
         | Answer::Entry(Err(refusal))
         | Answer::Reader(Err(refusal))
-        | Answer::Writer(Err(refusal)) => vec![refusal],
+        | Answer::Writer(Err(refusal))
+        | Answer::Turn(Err(refusal)) => vec![refusal],
+    }
+}
+
+/// The party, and what its step gave.
+fn turn_numbers(served: Served) -> Vec<u32> {
+    match served {
+        Served::Writer(step) => [vec![26, 0], writer_step_numbers(step)].concat(),
+        Served::Reader { reader, step } => {
+            [vec![26, reader + 1], reader_step_numbers(step)].concat()
+        }
     }
 }
 

@@ -50,7 +50,8 @@ impl Draws {
             10..=16 => Call::StartCommand,
             17..=21 => Call::StartLookup { reader, point },
             22 | 23 => Call::StartWalk { reader },
-            24..=49 => Call::StepWriter,
+            24..=39 => Call::StepWriter,
+            40..=51 => Call::Turn,
             _ => Call::StepReader { reader },
         }
     }

@@ -4,13 +4,14 @@
 use crate::reference_calls::{Answer, Call};
 use crate::reference_command::Entry;
 use crate::reference_table::Step;
+use crate::reference_turn::Served;
 use crate::reference_writer::WriterStep;
 use std::collections::BTreeMap;
 
 /// Each must occur so often.
 const TIMES: u32 = 10;
 
-const MUST_OCCUR: [&str; 29] = [
+const MUST_OCCUR: [&str; 42] = [
     "start of a lookup",
     "start of a walk",
     "reader's step",
@@ -19,6 +20,7 @@ const MUST_OCCUR: [&str; 29] = [
     "start of a removal",
     "command",
     "writer's step",
+    "turn",
     "started",
     "given again",
     "found",
@@ -30,6 +32,18 @@ const MUST_OCCUR: [&str; 29] = [
     "removed",
     "no perch",
     "writer's 7",
+    "reader underway under a turn",
+    "found under a turn",
+    "reader's 7 under a turn",
+    "walk's word under a turn",
+    "walk's last word under a turn",
+    "writer underway under a turn",
+    "placed under a turn",
+    "changed under a turn",
+    "removed under a turn",
+    "no perch under a turn",
+    "writer's 7 under a turn",
+    "refusal 5 under a turn",
     "refusal 2",
     "refusal 3",
     "refusal 4",
@@ -73,6 +87,7 @@ fn call_name(call: Call) -> &'static str {
         Call::StartRemoval { .. } => "start of a removal",
         Call::StartCommand => "command",
         Call::StepWriter => "writer's step",
+        Call::Turn => "turn",
     }
 }
 
@@ -82,12 +97,22 @@ fn answer_name(answer: Answer) -> String {
         Answer::Entry(Ok(Entry::GivenAgain(_))) => "given again",
         Answer::Reader(Ok(step)) => reader_step_name(step),
         Answer::Writer(Ok(step)) => writer_step_name(step),
+        Answer::Turn(turn) => return turn_name(turn),
         Answer::Start(Err(refusal))
         | Answer::Entry(Err(refusal))
         | Answer::Reader(Err(refusal))
         | Answer::Writer(Err(refusal)) => return format!("refusal {refusal}"),
     };
     name.to_string()
+}
+
+fn turn_name(turn: Result<Served, u32>) -> String {
+    let name = match turn {
+        Ok(Served::Writer(step)) => writer_step_name(step).to_string(),
+        Ok(Served::Reader { step, .. }) => reader_step_name(step).to_string(),
+        Err(refusal) => format!("refusal {refusal}"),
+    };
+    name + " under a turn"
 }
 
 fn reader_step_name(step: Step) -> &'static str {

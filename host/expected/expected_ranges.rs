@@ -36,6 +36,9 @@ impl Table {
         for reach in [4, 5] {
             self.0.push(Record { reach, ..panel() });
         }
+        for place in [16, 17] {
+            self.0.push(Record { place, ..panel() });
+        }
         for (index, count) in [(1, 8), (1, 9), (4, 9), (5, 9), (64, u32::MAX)] {
             let mut panel = panel();
             panel.counts[index as usize - 1] = count;

@@ -25,6 +25,8 @@ mod reference_command;
 mod reference_frame;
 #[path = "../reference/reference_record.rs"]
 mod reference_record;
+#[path = "../reference/reference_turn.rs"]
+mod reference_turn;
 #[path = "../reference/reference_writer.rs"]
 mod reference_writer;
 

@@ -6,11 +6,11 @@ const BEFORE: &str = "panel 8 4\nput 1 5\nstep writer\nstep writer\nstep writer\
     put 9 6\nstep writer\nstep writer\nstep writer\n";
 
 /// What is called behind it.
-const BEHIND: &[u8] = b"\nshow\nstep writer\nstep reader 3\nshow";
+const BEHIND: &[u8] = b"\nshow\nturn\nstep writer\nstep reader 3\nturn\nshow";
 
 const LINE_ENDS: [&[u8]; 5] = [b"", b"\n", b"\r\n", b"\n\n", b"\r"];
 
-const LINES: [&[u8]; 133] = [
+const LINES: [&[u8]; 141] = [
     b"",
     b" ",
     b"\t",
@@ -139,6 +139,14 @@ const LINES: [&[u8]; 133] = [
     b"command 0x0F",
     b"command 0F, 03",
     b"command0F",
+    b"turn",
+    b" turn\t",
+    b"turn 3",
+    b"turn writer",
+    b"turn reader 3",
+    b"turn #",
+    b"turns",
+    b"Turn",
     b"show",
     b"show 1",
     b"shown",
@@ -188,7 +196,8 @@ fn frames(inputs: &mut Vec<Vec<u8>>) {
 fn every_byte(inputs: &mut Vec<Vec<u8>>) {
     for byte in 0..=255 {
         let mut tried = BEFORE.as_bytes().to_vec();
-        for line in [b"put 9 7".as_slice(), b"command 0F 03", b"step reader 3"] {
+        let lines: [&[u8]; 4] = [b"put 9 7", b"command 0F 03", b"step reader 3", b"turn"];
+        for line in lines {
             for place in 0..=line.len() {
                 let (left, right) = line.split_at(place);
                 tried.extend([left, &[byte], right, b"\n"].concat());

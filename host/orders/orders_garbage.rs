@@ -4,7 +4,7 @@ use crate::orders_histories;
 use crate::random::{damage, Random};
 
 /// Words of which a readable line is made now and then.
-const WORDS: [&str; 24] = [
+const WORDS: [&str; 25] = [
     "panel",
     "start",
     "lookup",
@@ -16,6 +16,7 @@ const WORDS: [&str; 24] = [
     "change",
     "remove",
     "command",
+    "turn",
     "show",
     "#",
     "0",

@@ -8,7 +8,9 @@ use crate::reference_calls::{apply, Call};
 use crate::reference_record::{Reader, Record, Writer};
 use crate::reference_table::fresh;
 
-/// The second of two readers out of sixteen; the first is reader 0.
+/// The readers out of sixteen that are given work: the first and the last two, so that the place in
+/// the circle of turns comes to 16 and back to 0.
+const READERS: [u32; 3] = [0, 14, WALKER];
 const WALKER: u32 = 15;
 
 /// A history's panel, and what is drawn for it.
@@ -84,7 +86,7 @@ impl Drawing<'_> {
     fn call(&mut self) -> (Call, Vec<u8>) {
         let reader = self.reader();
         let point = self.point();
-        let call = match self.random.within(0, 19) {
+        let call = match self.random.within(0, 24) {
             0 | 1 => Call::StartLookup { reader, point },
             2 if self.may_walk(reader) => Call::StartWalk { reader },
             2..=8 => Call::StepReader {
@@ -93,6 +95,7 @@ impl Drawing<'_> {
             9 => return (Call::StartCommand, self.frame()),
             10 | 11 if self.record.writer == Writer::Idle => self.operation(point),
             12 => self.operation(point),
+            20..=24 => Call::Turn,
             _ if self.record.writer != Writer::Idle => Call::StepWriter,
             13 | 14 => return (Call::StartCommand, self.frame()),
             15 => Call::StepWriter,
@@ -124,16 +127,16 @@ impl Drawing<'_> {
         }
     }
 
-    /// One of the two readers, and now and then one that is refused.
+    /// One of the three readers, and now and then one that is refused.
     fn reader(&mut self) -> u32 {
         match self.random.within(0, 30) {
             0 => 16,
             1 => u32::MAX,
-            draw => draw % 2 * WALKER,
+            _ => self.random.one_of(&READERS),
         }
     }
 
-    /// Where a walk is long only one reader walks, so that the other's lookups go on beside it.
+    /// Where a walk is long only one reader walks, so that the others' lookups go on beside it.
     fn may_walk(&self, reader: u32) -> bool {
         self.slots.len() < 20 || reader == WALKER
     }

@@ -97,6 +97,7 @@ fn order(word: &[u8], words: &mut Words) -> Result<Order, String> {
         b"remove" => Call::StartRemoval {
             point: number(words, "point")?,
         },
+        b"turn" => Call::Turn,
         other => return Err(no_such_word(Some(other))),
     };
     Ok(Order::Call(call, Vec::new()))

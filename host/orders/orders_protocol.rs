@@ -7,6 +7,7 @@ use crate::plain_list::PlainList;
 use crate::reference_calls::{apply, Answer, Call};
 use crate::reference_record::{Record, Writer};
 use crate::reference_table::fresh;
+use crate::reference_turn::Served;
 use crate::reference_writer::WriterStep;
 
 /// The most slots that there are to lend.
@@ -70,13 +71,14 @@ fn make(panel: &mut Option<Panel>, m: u32, k: u32) -> String {
 }
 
 impl Panel {
-    /// Carries out the call, and feeds the list where document 01 says.
+    /// Carries out the call, and feeds the list where document 01 says. A writer's step is one under
+    /// a turn too.
     fn carry_out(&mut self, call: Call, frame: &[u8]) -> Answer {
         let before = self.record;
         let answer = apply(&mut self.record, &mut self.slots, call, frame);
         if before.writer == Writer::Idle {
             self.has_fed = false;
-        } else if let Answer::Writer(Ok(step)) = answer {
+        } else if let Answer::Writer(Ok(step)) | Answer::Turn(Ok(Served::Writer(step))) = answer {
             let ends = step != WriterStep::Underway;
             if stores_slot(&before) || (ends && !self.has_fed) {
                 self.has_fed = true;
@@ -106,8 +108,9 @@ impl Panel {
         } else {
             "DIFFERENT: the slots do not show the plain list"
         };
-        let reach = self.record.reach;
-        printed + &format!("  empty slots: {empty}\n  reach {reach}\n  {verdict}\n")
+        let Record { reach, place, .. } = self.record;
+        printed
+            + &format!("  empty slots: {empty}\n  reach {reach}\n  place {place}\n  {verdict}\n")
     }
 }
 

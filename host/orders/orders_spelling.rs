@@ -6,7 +6,7 @@ use crate::random::Random;
 use crate::reference_calls::Call;
 
 /// Lines that cannot be read.
-const UNREADABLE: [&str; 24] = [
+const UNREADABLE: [&str; 26] = [
     "start",
     "start lookup",
     "start lookup 1",
@@ -29,6 +29,8 @@ const UNREADABLE: [&str; 24] = [
     "remove 0x",
     "command 0",
     "command 0F 0G",
+    "turn 0",
+    "turn writer",
     "show all",
     "Put 1 2",
 ];

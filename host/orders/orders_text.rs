@@ -3,6 +3,7 @@
 use crate::reference_calls::{Answer, Call};
 use crate::reference_command::Entry;
 use crate::reference_table::{point_of, value_of, Step};
+use crate::reference_turn::Served;
 use crate::reference_writer::WriterStep;
 
 /// The refusal table's words, from number 1 on.
@@ -25,6 +26,7 @@ pub fn call(call: Call, frame: &[u8]) -> String {
             format!("command{}", bytes.collect::<String>())
         }
         Call::StepWriter => "step writer".to_string(),
+        Call::Turn => "turn".to_string(),
     }
 }
 
@@ -34,6 +36,7 @@ pub fn answer(answer: Answer) -> String {
         Answer::Entry(entry) => entry.map(entered),
         Answer::Reader(step) => step.map(read),
         Answer::Writer(step) => step.map(written),
+        Answer::Turn(turn) => turn.map(served),
     };
     given.unwrap_or_else(refused)
 }
@@ -52,6 +55,14 @@ fn entered(entry: Entry) -> String {
         Entry::Started => "started".to_string(),
         Entry::GivenAgain(Some(value)) => format!("given again: new value {value}"),
         Entry::GivenAgain(None) => format!("given again: {}", refusal(7)),
+    }
+}
+
+/// The party, and what its own step would print.
+fn served(turn: Served) -> String {
+    match turn {
+        Served::Writer(step) => format!("writer: {}", written(step)),
+        Served::Reader { reader, step } => format!("reader {reader}: {}", read(step)),
     }
 }
 

@@ -3,6 +3,7 @@
 use crate::reference_command::{start_command, Entry};
 use crate::reference_record::Record;
 use crate::reference_table::{start_lookup, start_walk, step_reader, Refusal, Step};
+use crate::reference_turn::{turn, Served};
 use crate::reference_writer::{start_change, start_put, start_removal, step_writer, WriterStep};
 
 #[derive(Clone, Copy, Debug)]
@@ -15,6 +16,7 @@ pub enum Call {
     StartRemoval { point: u32 },
     StartCommand,
     StepWriter,
+    Turn,
 }
 
 /// What a call answers by its kind, or the number of the refusal.
@@ -24,6 +26,7 @@ pub enum Answer {
     Entry(Result<Entry, u32>),
     Reader(Result<Step, u32>),
     Writer(Result<WriterStep, u32>),
+    Turn(Result<Served, u32>),
 }
 
 /// Carries out a call. A command takes the frame; the other calls do not look at it.
@@ -41,6 +44,7 @@ pub fn apply(record: &mut Record, slots: &mut [u64], call: Call, frame: &[u8]) -
         Call::StartRemoval { point } => started(start_removal(record, slots, point)),
         Call::StartCommand => Answer::Entry(start_command(record, slots, frame)),
         Call::StepWriter => Answer::Writer(step_writer(record, slots).map_err(number)),
+        Call::Turn => Answer::Turn(turn(record, slots).map_err(number)),
     }
 }
 

@@ -1,5 +1,5 @@
 //! A second model of the record and of the ranges of its fields, written from document 01 ("What
-//! the panel holds") and not from the library.
+//! the panel holds") and document 02, and not from the library.
 
 use std::ops::RangeInclusive;
 
@@ -10,12 +10,17 @@ const STATIONS: RangeInclusive<u32> = 1..=32;
 const ACTIONS: RangeInclusive<u32> = 0..=2;
 const LAST_NUMBER: u32 = 16_777_215;
 
+/// The writer and the readers, who take turns: the writer is 0, reader n is n + 1.
+pub const PARTIES: u32 = 17;
+
 /// The one value that every step changes.
 #[derive(Clone, Copy, Debug, PartialEq, Eq)]
 pub struct Record {
     pub m: u32,
     pub k: u32,
     pub reach: u32,
+    /// The party that the next turn tries first.
+    pub place: u32,
     /// At i - 1, how many stored points use index i. Those above k are no field.
     pub counts: [u32; 64],
     pub writer: Writer,
@@ -132,6 +137,7 @@ impl Record {
             m,
             k,
             reach: 0,
+            place: 0,
             counts: [0; 64],
             writer: Writer::Idle,
             readers: [Reader::Idle; 16],
@@ -145,6 +151,7 @@ impl Record {
             && FUNCTIONS.contains(&self.k)
             && self.reach <= self.k
             && self.used_counts().all(|&count| count <= self.m)
+            && self.place < PARTIES
             && self.writer.in_range(self.k)
             && self.readers.iter().all(|r| r.in_range(self.m, self.k))
             && self.stations.iter().all(Station::in_range)

@@ -136,6 +136,15 @@ fn start(work: &mut Reader, new: Reader) -> Result<(), Refusal> {
 /// One access of a reader's work.
 pub fn step_reader(record: &mut Record, slots: &[u64], reader: u32) -> Result<Step, Refusal> {
     fit(record, slots)?;
+    step_fitting_reader(record, slots, reader)
+}
+
+/// The same where record and slots are known to fit.
+pub fn step_fitting_reader(
+    record: &mut Record,
+    slots: &[u64],
+    reader: u32,
+) -> Result<Step, Refusal> {
     let reach_now = record.reach;
     let work = work_of(record, reader)?;
     let (answer, after) = match *work {

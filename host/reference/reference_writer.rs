@@ -75,6 +75,11 @@ fn start(record: &mut Record, slots: &[u64], point: u32, work: Writer) -> Result
 /// One access of the writer's work.
 pub fn step_writer(record: &mut Record, slots: &mut [u64]) -> Result<WriterStep, Refusal> {
     fit(record, slots)?;
+    step_fitting_writer(record, slots)
+}
+
+/// The same where record and slots are known to fit.
+pub fn step_fitting_writer(record: &mut Record, slots: &mut [u64]) -> Result<WriterStep, Refusal> {
     let (answer, after) = match record.writer {
         Writer::Idle => return Err(Refusal::Idle),
         Writer::Putting {

@@ -1,5 +1,5 @@
-//! Steps of the writer and of readers in any order, against the plain list: document 01's claim
-//! about every list of calls, walks, and the bounds on steps.
+//! Steps of the writer and of readers in any order, by turns too, against the plain list: document
+//! 01's claim about every list of calls, walks, and the bounds on steps.
 
 use crate::answer_of;
 use crate::drawn_commands::Sent;
@@ -9,7 +9,8 @@ use crate::random::Random;
 use crate::reference_command;
 use crate::reference_record::{Reader, Record, Writer};
 use crate::reference_table::{fresh, start_lookup, start_walk, step_reader, Refusal, Step};
-use crate::reference_writer::{start_change, start_put, start_removal, step_writer};
+use crate::reference_turn::{turn, Served};
+use crate::reference_writer::{start_change, start_put, start_removal, step_writer, WriterStep};
 use crate::test_commands::Notes;
 use crate::test_walks::{Ended, Walk};
 
@@ -83,13 +84,14 @@ impl World {
     /// One call, which may be refused.
     fn call(&mut self, random: &mut Random) {
         let reader = random.within(0, READERS - 1);
-        match random.within(0, 10) {
+        match random.within(0, 13) {
             0 => self.start_lookup(reader, random.within(0, LAST_POINT)),
             10 => self.start_walk(reader),
             1..=4 => self.step_reader(reader),
             5 => self.start_writer(random),
             6 => self.start_command(random),
-            _ => self.step_writer(),
+            7..=9 => self.step_writer(),
+            _ => self.turn(),
         }
     }
 
@@ -125,6 +127,26 @@ impl World {
     fn step_reader(&mut self, reader: u32) {
         let work = self.record.readers[reader as usize];
         let answer = step_reader(&mut self.record, &self.slots, reader);
+        self.reader_stepped(reader, work, answer);
+    }
+
+    fn turn(&mut self) {
+        let before = self.record;
+        match turn(&mut self.record, &mut self.slots) {
+            Ok(Served::Writer(step)) => self.writer_stepped(&before, Ok(step)),
+            Ok(Served::Reader { reader, step }) => {
+                let work = before.readers[reader as usize];
+                self.reader_stepped(reader, work, Ok(step));
+            }
+            Err(refusal) => {
+                assert_eq!((refusal, before.writer), (Refusal::Idle, Writer::Idle));
+                assert_eq!(before.readers, [Reader::Idle; 16]);
+            }
+        }
+    }
+
+    /// The reader had this work before the step.
+    fn reader_stepped(&mut self, reader: u32, work: Reader, answer: Result<Step, Refusal>) {
         match work {
             Reader::Idle => assert_eq!(answer, Err(Refusal::Idle)),
             Reader::LookingUp { .. } => self.lookup_stepped(reader, answer),
@@ -178,22 +200,27 @@ impl World {
 
     fn step_writer(&mut self) {
         let before = self.record;
-        let answer = answer_of(step_writer(&mut self.record, &mut self.slots));
+        let answer = step_writer(&mut self.record, &mut self.slots);
+        self.writer_stepped(&before, answer);
+    }
+
+    fn writer_stepped(&mut self, before: &Record, answer: Result<WriterStep, Refusal>) {
+        let answer = answer_of(answer);
         if before.writer == Writer::Idle {
             assert_eq!(answer, Some(Err(5)));
             return;
         }
         self.writer_steps += 1;
-        if stores_slot(&before) || (answer.is_some() && self.fed.is_none()) {
+        if stores_slot(before) || (answer.is_some() && self.fed.is_none()) {
             assert_eq!(self.fed, None);
             self.fed = Some(feed(&mut self.list, before.writer));
         }
-        if stores_slot(&before) {
+        if stores_slot(before) {
             self.commands.slot_stored();
         }
         if let Some(answer) = answer {
             assert_eq!(Some(answer), self.fed.take());
-            assert!(self.writer_steps <= bound(&before));
+            assert!(self.writer_steps <= bound(before));
             self.writer_steps = 0;
             self.commands.operation_ended(answer, &self.record);
         }

@@ -1,16 +1,18 @@
-// The turns of a run, with calls that take and give the record by value.
+// The calls of a run, which take and give the record by value.
 use crate::sums::with_start;
 use crate::sums::with_step;
+use crate::sums::with_turn;
+use dispatcher::turn;
 use reader_starts::start_lookup;
 use reader_step::step_reader;
 use record::Record;
 use writer::step_writer;
 
-// The readers' steps, by turns.
-pub(crate) fn reader_steps(panel: Record, slots: &[u64], turns: u32) -> u64 {
+// The steps of all readers, one after the other.
+pub(crate) fn reader_steps(panel: Record, slots: &[u64], count: u32) -> u64 {
     let mut kept = panel;
     let mut sum = 0;
-    for i in 0..turns {
+    for i in 0..count {
         let after = step_reader(kept, slots, i % 16);
         let answer = after.answer;
         kept = after.panel;
@@ -20,10 +22,10 @@ pub(crate) fn reader_steps(panel: Record, slots: &[u64], turns: u32) -> u64 {
 }
 
 // A lookup of each reader in turn.
-pub(crate) fn lookup_starts(panel: Record, slots: &[u64], turns: u32) -> u64 {
+pub(crate) fn lookup_starts(panel: Record, slots: &[u64], count: u32) -> u64 {
     let mut kept = panel;
     let mut sum = 0;
-    for i in 0..turns {
+    for i in 0..count {
         let after = start_lookup(kept, slots, i, i + 1);
         let answer = after.answer;
         kept = after.panel;
@@ -32,14 +34,40 @@ pub(crate) fn lookup_starts(panel: Record, slots: &[u64], turns: u32) -> u64 {
     sum
 }
 
-pub(crate) fn writer_steps(panel: Record, slots: &mut [u64], turns: u32) -> u64 {
+pub(crate) fn writer_steps(panel: Record, slots: &mut [u64], count: u32) -> u64 {
     let mut kept = panel;
     let mut sum = 0;
-    for i in 0..turns {
+    for i in 0..count {
         let after = step_writer(kept, slots);
         let answer = after.answer;
         kept = after.panel;
         sum = with_step(sum, answer);
+    }
+    sum
+}
+
+// Steps of reader 5, the one at work.
+pub(crate) fn one_readers_steps(panel: Record, slots: &[u64], count: u32) -> u64 {
+    let mut kept = panel;
+    let mut sum = 0;
+    for i in 0..count {
+        let after = step_reader(kept, slots, 5);
+        let answer = after.answer;
+        kept = after.panel;
+        sum = with_step(sum, answer);
+    }
+    sum
+}
+
+// Turns of the dispatcher.
+pub(crate) fn dispatched(panel: Record, slots: &mut [u64], count: u32) -> u64 {
+    let mut kept = panel;
+    let mut sum = 0;
+    for i in 0..count {
+        let after = turn(kept, slots);
+        let answer = after.answer;
+        kept = after.panel;
+        sum = with_turn(sum, answer);
     }
     sum
 }

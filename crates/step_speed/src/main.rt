@@ -1,6 +1,7 @@
-// Single calls at work, for a benchmark from outside. Each line of standard input, of at most 12, asks for some:
-// R readers' steps, W the writer's steps or L starts of lookups; V by value or P in place; S 16 or L 4096 slots;
-// and a digit, for 10 to that power runs. Prints for each line the calls made and a sum of what they answered.
+// Single calls at work, for a benchmark from outside. Each line of standard input, of at most 24, asks for some:
+// R readers' steps, all readers at work; W the writer's steps; L starts of lookups; T turns, all parties at work;
+// O turns, one reader at work; S that reader's steps. V by value or P in place; S 16 or L 4096 slots; and a digit,
+// for 10 to that power runs. Prints for each line the calls made and a sum of what they answered.
 mod by_value;
 mod lending;
 mod panels;
@@ -16,7 +17,7 @@ pub(crate) enum Way {
 }
 
 fn main() {
-    for number in 1..13u32 {
+    for number in 1..25u32 {
         let mut line = [0u8; 5];
         let length = io::read_full(0, &mut line);
         if length < 4 {

@@ -4,6 +4,7 @@ use reader_starts::start_walk;
 use record::Record;
 use record::parts::fresh_record;
 use slot_words::word::word_of;
+use writer::start_put;
 
 // The point that is put, changed and removed. At 16 and at 4096 slots its position 8 is none of those before.
 pub(crate) const POINT: u32 = 17;
@@ -43,5 +44,17 @@ fn two_started(panel: Record, slots: &[u64], i: u32) -> Record {
     let reader = i % 8 * 2;
     let looking = start_lookup(panel, slots, reader, reader + 1);
     let walking = start_walk(looking.panel, slots, reader + 1);
+    walking.panel
+}
+
+// All readers at work, and the writer at a put that takes more steps than a lookup.
+pub(crate) fn all_at_work(m: u32, slots: &[u64]) -> Record {
+    let putting = start_put(readers_at_work(m, slots), slots, POINT, 7);
+    putting.panel
+}
+
+// Reader 5 at a walk, which takes m steps, and nobody else.
+pub(crate) fn one_at_work(m: u32, slots: &[u64]) -> Record {
+    let walking = start_walk(idle_panel(m, 8), slots, 5);
     walking.panel
 }

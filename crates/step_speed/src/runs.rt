@@ -4,7 +4,9 @@ use crate::Way;
 use crate::by_value;
 use crate::lending;
 use crate::panels::POINT;
+use crate::panels::all_at_work;
 use crate::panels::idle_panel;
+use crate::panels::one_at_work;
 use crate::panels::readers_at_work;
 use record::Record;
 use std::num::wrapping_add_u64;
@@ -19,32 +21,35 @@ pub(crate) fn made(letter: u8, way: Way, m: u32, slots: &mut [u64], times: u32) 
     match letter {
         b'W' => writer_runs(way, m, slots, times),
         b'L' => lookup_runs(way, m, slots, times),
+        b'T' => turn_runs(way, all_at_work(m, slots), slots, 153, times),
+        b'O' => turn_runs(way, one_at_work(m, slots), slots, 16, times),
+        b'S' => one_readers_runs(way, m, slots, times),
         _ => reader_runs(way, m, slots, times),
     }
 }
 
-fn counted(tally: Tally, turns: u32, sum: u64) -> Tally {
+fn counted(tally: Tally, count: u32, sum: u64) -> Tally {
     Tally {
-        calls: wrapping_add_u64(tally.calls, turns as u64),
+        calls: wrapping_add_u64(tally.calls, count as u64),
         sum: wrapping_add_u64(tally.sum, sum),
     }
 }
 
-// As many turns as all 16 readers have work: a lookup takes 9 steps, a walk m.
+// As many steps as all 16 readers have work: a lookup takes 9 steps, a walk m.
 fn reader_runs(way: Way, m: u32, slots: &[u64], times: u32) -> Tally {
     let panel = readers_at_work(m, slots);
-    let turns = 144;
+    let count = 144;
     let mut tally = Tally { calls: 0, sum: 0 };
     for run in 0..times {
-        tally = counted(tally, turns, reader_run(way, panel, slots, turns));
+        tally = counted(tally, count, reader_run(way, panel, slots, count));
     }
     tally
 }
 
-fn reader_run(way: Way, panel: Record, slots: &[u64], turns: u32) -> u64 {
+fn reader_run(way: Way, panel: Record, slots: &[u64], count: u32) -> u64 {
     match way {
-        Way::ByValue => by_value::reader_steps(panel, slots, turns),
-        Way::InPlace => lending::reader_steps(panel, slots, turns),
+        Way::ByValue => by_value::reader_steps(panel, slots, count),
+        Way::InPlace => lending::reader_steps(panel, slots, count),
     }
 }
 
@@ -112,9 +117,41 @@ fn three_run(
     wrapping_add_u64(wrapping_add_u64(put, changed), removed)
 }
 
-fn writer_run(way: Way, panel: Record, slots: &mut [u64], turns: u32) -> u64 {
+fn writer_run(way: Way, panel: Record, slots: &mut [u64], count: u32) -> u64 {
     match way {
-        Way::ByValue => by_value::writer_steps(panel, slots, turns),
-        Way::InPlace => lending::writer_steps(panel, slots, turns),
+        Way::ByValue => by_value::writer_steps(panel, slots, count),
+        Way::InPlace => lending::writer_steps(panel, slots, count),
+    }
+}
+
+// So many turns, none of which is refused; whoever is at work at first is so until the last round of the circle.
+fn turn_runs(way: Way, panel: Record, slots: &mut [u64], count: u32, times: u32) -> Tally {
+    let mut tally = Tally { calls: 0, sum: 0 };
+    for run in 0..times {
+        tally = counted(tally, count, turn_run(way, panel, slots, count));
+    }
+    tally
+}
+
+fn turn_run(way: Way, panel: Record, slots: &mut [u64], count: u32) -> u64 {
+    match way {
+        Way::ByValue => by_value::dispatched(panel, slots, count),
+        Way::InPlace => lending::dispatched(panel, slots, count),
+    }
+}
+
+fn one_readers_runs(way: Way, m: u32, slots: &[u64], times: u32) -> Tally {
+    let panel = one_at_work(m, slots);
+    let mut tally = Tally { calls: 0, sum: 0 };
+    for run in 0..times {
+        tally = counted(tally, 16, one_readers_run(way, panel, slots));
+    }
+    tally
+}
+
+fn one_readers_run(way: Way, panel: Record, slots: &[u64]) -> u64 {
+    match way {
+        Way::ByValue => by_value::one_readers_steps(panel, slots, 16),
+        Way::InPlace => lending::one_readers_steps(panel, slots, 16),
     }
 }

@@ -3,6 +3,7 @@ use answers::Ending;
 use answers::StartAnswer;
 use answers::StepAnswer;
 use answers::StepResult;
+use answers::TurnAnswer;
 use slot_words::word::value_of;
 use std::num::wrapping_add_u64;
 
@@ -10,6 +11,16 @@ pub(crate) fn with_step(sum: u64, answer: StepAnswer) -> u64 {
     match answer {
         StepAnswer::Stepped(result) => wrapping_add_u64(sum, worth(result)),
         StepAnswer::Refused(_) => wrapping_add_u64(sum, 1000000),
+    }
+}
+
+// The party's number counts too.
+pub(crate) fn with_turn(sum: u64, answer: TurnAnswer) -> u64 {
+    match answer {
+        TurnAnswer::Served { party, result } => {
+            wrapping_add_u64(wrapping_add_u64(sum, party as u64), worth(result))
+        }
+        TurnAnswer::Refused(_) => wrapping_add_u64(sum, 1000000),
     }
 }
 

@@ -15,6 +15,8 @@ mod reference_calls;
 mod reference_command;
 #[path = "../../reference/reference_record.rs"]
 mod reference_record;
+#[path = "../../reference/reference_turn.rs"]
+mod reference_turn;
 #[path = "../../reference/reference_writer.rs"]
 mod reference_writer;
 

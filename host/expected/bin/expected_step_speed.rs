@@ -1,7 +1,7 @@
 //! What the program `step_speed` has to print for the input given, worked out with the reference. It
 //! is also the Rust side of the benchmark of single calls.
 
-// Of the reference, only readers and writer are used.
+// Of the reference, only readers, writer and turns are used.
 #[allow(dead_code)]
 #[path = "../../reference/reference_record.rs"]
 mod reference_record;
@@ -12,6 +12,8 @@ mod reference_table;
 #[path = "../../reference/reference_writer.rs"]
 mod reference_writer;
 
+#[path = "../../reference/reference_turn.rs"]
+mod reference_turn;
 #[path = "../step_workload.rs"]
 mod step_workload;
 

@@ -34,6 +34,8 @@ mod reference_command;
 mod reference_frame;
 #[path = "../../reference/reference_record.rs"]
 mod reference_record;
+#[path = "../../reference/reference_turn.rs"]
+mod reference_turn;
 #[path = "../../reference/reference_writer.rs"]
 mod reference_writer;
 
@@ -79,7 +81,7 @@ const fn sizes(m: u32, k: u32, points: u32, lines: u32) -> Sizes {
 }
 
 /// What the reference must print somewhere behind a history: every answer and every message.
-const OCCURRING: [&str; 41] = [
+const OCCURRING: [&str; 57] = [
     ": made\n",
     ": started\n",
     ": underway\n",
@@ -93,6 +95,19 @@ const OCCURRING: [&str; 41] = [
     ": empty slot\n",
     ": last: word of point ",
     ": last: empty slot\n",
+    " turn: writer: underway\n",
+    " turn: writer: placed in slot ",
+    " turn: writer: new value ",
+    " turn: writer: reach ",
+    " turn: writer: 6 no perch\n",
+    " turn: writer: 7 unknown\n",
+    " turn: reader 0: underway\n",
+    " turn: reader 14: value ",
+    " turn: reader 0: 7 unknown\n",
+    " turn: reader 14: word of point ",
+    " turn: reader 15: last: word of point ",
+    " turn: reader 15: last: empty slot\n",
+    " turn: refused: 5 idle\n",
     ": given again: new value ",
     ": given again: 7 unknown\n",
     ": refused: 1 misfit\n",
@@ -120,6 +135,9 @@ const OCCURRING: [&str; 41] = [
     ": not a hexadecimal digit\n",
     ": odd count of hexadecimal digits\n",
     " | list: point ",
+    "  place 0\n",
+    "  place 2\n",
+    "  place 16\n",
     "  the slots show the plain list\n",
 ];
 

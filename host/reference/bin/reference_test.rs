@@ -1,6 +1,6 @@
 //! Tests of the reference itself: the writer's steps and the command entry one by one, whole
-//! operations against the direct table and the plain list, and the calls of writer, readers and
-//! stations in any order against the plain list. A failed test ends the program.
+//! operations against the direct table and the plain list, the calls of writer, readers and stations
+//! in any order against the plain list, and turns. A failed test ends the program.
 
 #[path = "../../bench/bench_commands.rs"]
 mod bench_commands;
@@ -24,6 +24,8 @@ mod reference_frame;
 mod reference_operations;
 #[path = "../reference_record.rs"]
 mod reference_record;
+#[path = "../reference_turn.rs"]
+mod reference_turn;
 #[path = "../reference_writer.rs"]
 mod reference_writer;
 #[path = "../step_table.rs"]
@@ -38,6 +40,10 @@ mod test_histories;
 mod test_orders;
 #[path = "../test_steps.rs"]
 mod test_steps;
+#[path = "../test_turns.rs"]
+mod test_turns;
+#[path = "../test_waiting.rs"]
+mod test_waiting;
 #[path = "../test_walks.rs"]
 mod test_walks;
 
@@ -57,6 +63,7 @@ mod reference_table;
 use plain_feeding::Answer;
 use reference_table::Refusal;
 use reference_writer::WriterStep;
+use test_waiting::Seen;
 use test_walks::Ended;
 
 /// What a writer's operation ended with; none if it is underway.
@@ -76,9 +83,12 @@ fn main() {
     test_entry::run();
     let commands = test_histories::run();
     let (calls, Ended { walks, altered }) = test_orders::run();
+    test_turns::run();
+    let Seen { turns, lookups, .. } = test_waiting::run();
     println!(
         "reference_test: {commands} commands of histories and {calls} calls in any order, \
          as the plain list has them; {walks} walks to their end, {altered} of them while the list \
-         was altered"
+         was altered; {turns} turns, in which nobody at work waited for more than 16 and {lookups} \
+         lookups ended in time"
     );
 }

@@ -1,13 +1,14 @@
 //! Benchmark of single calls: the program `step_speed`, by value and in place, beside the step
 //! machine in Rust, `expected_step_speed`, on the same lines. Prints a table: the ratio of times, best
-//! of several rounds, and, where there is `valgrind`, the instructions of a call. Exit status 1 if the
-//! two print different things or cannot be run.
+//! of several rounds, and, where there is `valgrind`, the instructions of a call; below it a turn beside
+//! a step. Exit status 1 if the two print different things or cannot be run.
 
 #[path = "../../common/child_program.rs"]
 mod child_program;
 #[path = "../timing.rs"]
 mod timing;
 
+use std::collections::HashMap;
 use std::fs::read_to_string;
 use std::process::{Command, ExitCode, Stdio};
 use timing::timed;
@@ -26,7 +27,7 @@ struct Kind {
     counted: u32,
 }
 
-const KINDS: [Kind; 3] = [
+const KINDS: [Kind; 6] = [
     Kind {
         name: "reader's step",
         letter: 'R',
@@ -45,10 +46,44 @@ const KINDS: [Kind; 3] = [
         timed: 6,
         counted: 1,
     },
+    Kind {
+        name: "turn, all 17 at work",
+        letter: 'T',
+        timed: 5,
+        counted: 0,
+    },
+    Kind {
+        name: "turn, one at work",
+        letter: 'O',
+        timed: 6,
+        counted: 1,
+    },
+    Kind {
+        name: "step, one at work",
+        letter: 'S',
+        timed: 6,
+        counted: 1,
+    },
 ];
 
 const SIZES: [(char, u32); 2] = [('S', 16), ('L', 4096)];
 const WAYS: [(char, &str); 2] = [('V', "by value"), ('P', "in place")];
+
+/// The letters of a turn and of the step that it is beside, and who is at work.
+const TURNS_AND_STEPS: [(char, char, &str); 2] = [
+    ('T', 'R', "all 17 beside all 16 readers"),
+    ('O', 'S', "one reader"),
+];
+
+/// Seconds that the proved program took for one call, by the line's letters.
+type Seconds = HashMap<String, f64>;
+
+/// The calls of a line, and the best times of the two programs in seconds.
+struct Times {
+    calls: f64,
+    proved: f64,
+    rust: f64,
+}
 
 /// What a program prints for a line.
 fn printed(program: &str, line: &str) -> Result<String, String> {
@@ -65,23 +100,26 @@ fn calls(printed: &str) -> Result<f64, String> {
     first.ok_or_else(|| format!("{printed:?} does not begin with a number"))
 }
 
-/// The calls of a line, and the best times of the proved program and of the Rust program in seconds.
-fn times(line: &str) -> Result<(f64, f64, f64), String> {
-    let (mut calls_made, mut proved, mut rust) = (0.0, f64::INFINITY, f64::INFINITY);
+fn times(line: &str) -> Result<Times, String> {
+    let mut times = Times {
+        calls: 0.0,
+        proved: f64::INFINITY,
+        rust: f64::INFINITY,
+    };
     for _ in 0..ROUNDS {
         let (of_proved, seconds) = timed(|| printed(PROVED, line));
-        proved = proved.min(seconds);
+        times.proved = times.proved.min(seconds);
         let (of_rust, seconds) = timed(|| printed(RUST, line));
-        rust = rust.min(seconds);
+        times.rust = times.rust.min(seconds);
         let (of_proved, of_rust) = (of_proved?, of_rust?);
         if of_proved != of_rust {
             return Err(format!(
                 "{line}: {PROVED} printed {of_proved:?}, {RUST} {of_rust:?}"
             ));
         }
-        calls_made = calls(&of_proved)?;
+        times.calls = calls(&of_proved)?;
     }
-    Ok((calls_made, proved, rust))
+    Ok(times)
 }
 
 /// The instructions that callgrind counts in a run of a program.
@@ -116,12 +154,22 @@ fn has_valgrind() -> bool {
     run.is_ok_and(|status| status.success())
 }
 
-/// One row of the table.
-fn row(kind: &Kind, size: usize, way: usize, counting: bool) -> Result<String, String> {
-    let (size_letter, m) = SIZES[size];
-    let (way_letter, way_name) = WAYS[way];
-    let line = |digit: u32| format!("{}{way_letter}{size_letter}{digit}\n", kind.letter);
-    let (calls, proved, rust) = times(&line(kind.timed))?;
+/// One row of the table, the time of its call noted.
+fn row(
+    kind: &Kind,
+    (size_letter, m): (char, u32),
+    (way_letter, way_name): (char, &str),
+    counting: bool,
+    seconds: &mut Seconds,
+) -> Result<String, String> {
+    let letters = format!("{}{way_letter}{size_letter}", kind.letter);
+    let line = |digit: u32| format!("{letters}{digit}\n");
+    let Times {
+        calls,
+        proved,
+        rust,
+    } = times(&line(kind.timed))?;
+    seconds.insert(letters.clone(), proved / calls);
     let counts = if counting {
         let (short, long) = (line(kind.counted), line(kind.counted + 1));
         let of_proved = per_call(PROVED, &short, &long)?;
@@ -138,19 +186,36 @@ fn row(kind: &Kind, size: usize, way: usize, counting: bool) -> Result<String, S
     ))
 }
 
+/// A turn's time over a step's, of the proved program in place.
+fn print_turns_beside_steps(seconds: &Seconds) {
+    let titles = SIZES.map(|(_, m)| format!(" {m} slots |")).concat();
+    println!("| turn / step, in place |{titles}");
+    println!("|---|---:|---:|");
+    for (turn, step, at_work) in TURNS_AND_STEPS {
+        let ratios = SIZES.map(|(size, _)| {
+            let of = |letter| seconds[&format!("{letter}P{size}")];
+            format!(" {:.2} |", of(turn) / of(step))
+        });
+        println!("| {at_work} |{}", ratios.concat());
+    }
+}
+
 fn bench() -> Result<(), String> {
     let counting = has_valgrind();
+    let mut seconds = Seconds::new();
     println!("single calls, best of {ROUNDS} rounds:");
     println!();
     println!("| call | slots | way | / step machine | instructions a call, proved / Rust | million calls/s |");
     println!("|---|---:|---|---:|---:|---:|");
     for kind in &KINDS {
-        for size in 0..SIZES.len() {
-            for way in 0..WAYS.len() {
-                println!("{}", row(kind, size, way, counting)?);
+        for size in SIZES {
+            for way in WAYS {
+                println!("{}", row(kind, size, way, counting, &mut seconds)?);
             }
         }
     }
+    println!();
+    print_turns_beside_steps(&seconds);
     Ok(())
 }
 

@@ -1,14 +1,14 @@
--- `step_speed::main` ends: it counts up to 12 lines.
+-- `step_speed::main` ends: it counts up to 24 lines.
 use Prim.Native.Nat.{_-_, _≤_}
 use borrow.Author.Needs.{needs}
 use Rattle.step_speed.proofs.main.Statement.{statement}
 use Rattle.step_speed.proofs.main.Tie as tie
 
 abbrev Inv-loop : tie.InvT-loop
-Inv-loop number₀ number = number ≤ 13
+Inv-loop number₀ number = number ≤ 25
 
 abbrev μ-loop : tie.MeasureT-loop
-μ-loop number₀ number = 13 - number
+μ-loop number₀ number = 25 - number
 
 loop-holds : tie.Need-loop-holds Inv-loop μ-loop
 loop-holds c = search needs

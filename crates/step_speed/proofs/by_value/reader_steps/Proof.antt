@@ -1,14 +1,14 @@
--- `step_speed::by_value::reader_steps` ends: it counts up to the number of turns.
+-- `step_speed::by_value::reader_steps` ends: it counts up to the number of calls.
 use Prim.Native.Nat.{_-_, _≤_}
 use borrow.Author.Needs.{needs}
 use Rattle.step_speed.proofs.by_value.reader_steps.Statement.{statement}
 use Rattle.step_speed.proofs.by_value.reader_steps.Tie as tie
 
 abbrev Inv-loop : tie.InvT-loop
-Inv-loop slots turns kept₀ sum₀ i₀ kept sum i = i ≤ turns
+Inv-loop slots count kept₀ sum₀ i₀ kept sum i = i ≤ count
 
 abbrev μ-loop : tie.MeasureT-loop
-μ-loop slots turns kept₀ sum₀ i₀ kept sum i = turns - i
+μ-loop slots count kept₀ sum₀ i₀ kept sum i = count - i
 
 loop-holds : tie.Need-loop-holds Inv-loop μ-loop
 loop-holds c = search needs

@@ -1,4 +1,4 @@
--- `step_speed::by_value::writer_steps` ends: it counts up to the number of turns.
+-- `step_speed::by_value::writer_steps` ends: it counts up to the number of calls.
 use Prim.Native.Nat.{_-_, _≤_}
 use mathlib.Core.Path.{_≡_}
 use borrow.Author.Needs.{needs}
@@ -7,10 +7,10 @@ use Rattle.step_speed.proofs.by_value.writer_steps.Statement.{statement
 use Rattle.step_speed.proofs.by_value.writer_steps.Tie as tie
 
 abbrev Inv-loop : tie.InvT-loop
-Inv-loop slots₀ turns kept₀ sum₀ i₀ slots kept sum i = (i ≤ turns) × (length slots ≡ length slots₀)
+Inv-loop slots₀ count kept₀ sum₀ i₀ slots kept sum i = (i ≤ count) × (length slots ≡ length slots₀)
 
 abbrev μ-loop : tie.MeasureT-loop
-μ-loop slots₀ turns kept₀ sum₀ i₀ slots kept sum i = turns - i
+μ-loop slots₀ count kept₀ sum₀ i₀ slots kept sum i = count - i
 
 loop-holds : tie.Need-loop-holds Inv-loop μ-loop
 loop-holds c = search needs

@@ -5,10 +5,10 @@ use Rattle.step_speed.proofs.runs.reader_runs.Statement.{statement}
 use Rattle.step_speed.proofs.runs.reader_runs.Tie as tie
 
 abbrev Inv-loop : tie.InvT-loop
-Inv-loop way m slots times panel turns tally₀ run₀ tally run = run ≤ times
+Inv-loop way m slots times panel count tally₀ run₀ tally run = run ≤ times
 
 abbrev μ-loop : tie.MeasureT-loop
-μ-loop way m slots times panel turns tally₀ run₀ tally run = times - run
+μ-loop way m slots times panel count tally₀ run₀ tally run = times - run
 
 readers-at-work-requires : tie.Need-readers-at-work-requires Inv-loop μ-loop
 readers-at-work-requires c κs = search needs

@@ -2,11 +2,11 @@
 use crate::sums::with_start;
 use crate::sums::with_step;
 use crate::sums::with_turn;
-use dispatcher::turn;
-use reader_starts::start_lookup;
-use reader_step::step_reader;
+use lent_record::start_lookup;
+use lent_record::step_reader;
+use lent_record::step_writer;
+use lent_record::turn;
 use record::Record;
-use writer::step_writer;
 
 // The steps of all readers, one after the other.
 pub(crate) fn reader_steps(panel: Record, slots: &[u64], count: u32) -> u64 {

@@ -1,4 +1,1 @@
-pub mod CircleLaws
-pub mod HighestDigit
-pub mod MarksLaws
 pub mod TurnLaws

@@ -30,13 +30,13 @@ use Rattle.effects.specs.Memory.{slotStored, accessRead}
 use Rattle.writer.specs.Work.{stepStored}
 use Rattle.writer.proofs.StepInPlace.{step-in-place}
 use Rattle.writer.proofs.WriterLaws.{allowed}
-use Rattle.dispatcher.specs.Circle.{nobody, partyAfter, firstAtWork, partyDue}
-use Rattle.dispatcher.specs.Turn.{isAtWork, partyServed, turnRefusal, partyStep, afterTurn, takeTurn}
+use Rattle.circle.specs.Circle.{nobody, partyAfter, firstAtWork, partyDue, isAtWork, partyServed}
+use Rattle.dispatcher.specs.Turn.{turnRefusal, partyStep, afterTurn, takeTurn}
 use Rattle.dispatcher.specs.TurnFacts.{LeavesAsStep}
-use Rattle.dispatcher.specs.Marks.{markedBehind, isMarked, dueBy, placeAfter}
+use Rattle.circle.specs.Marks.{markedBehind, isMarked, dueBy, placeAfter}
 use Rattle.dispatcher.specs.Due.{turnAnswer, turnedBy, writerTurn, readerTurn}
-use Rattle.dispatcher.proofs.CircleLaws.{same-party, Due, due-works, someone-due}
-use Rattle.dispatcher.proofs.MarksLaws.{marks-tell}
+use Rattle.circle.proofs.CircleLaws.{same-party, Due, due-works, someone-due}
+use Rattle.circle.proofs.MarksLaws.{marks-tell}
 
 -- the place of an outcome's record replaced
 abbrev placedAt : ℕ → Outcome → Outcome

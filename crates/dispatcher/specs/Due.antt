@@ -8,7 +8,7 @@ use Rattle.record.specs.Parts.{withPlace, numberedPlace}
 use Rattle.answers.specs.Answers.{Answer, served, isRefused, Outcome, outcome}
 use Rattle.reader_step.specs.Reader.{stepJudged}
 use Rattle.writer.specs.Work.{stepStored}
-use Rattle.dispatcher.specs.Marks.{placeAfter}
+use Rattle.circle.specs.Marks.{placeAfter}
 
 -- what a turn answers, by what the step of the party due gave
 unfoldable pub turnAnswer : ℕ → Answer → Answer

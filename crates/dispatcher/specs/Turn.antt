@@ -1,27 +1,17 @@
 -- Request N1: a turn.
 use Prim.Native.Nat.{ℕ, zero, suc}
-use mathlib.Core.Bool.{Bool, not}
+use mathlib.Core.Bool.{not}
 use mathlib.Core.List.{List}
 use lib.Dec.{eqb}
 use lib.ListN.{length}
 use Rattle.refusal.specs.Judging.{refuseIf}
 use Rattle.record.specs.declared.Record.{Record}
-use Rattle.record.specs.Parts.{workOf, withPlace}
-use Rattle.record.specs.Idle.{isReaderIdle, isWriterIdle}
+use Rattle.record.specs.Parts.{withPlace}
 use Rattle.record_ranges.specs.Ranges.{inRange}
 use Rattle.answers.specs.Answers.{served, Outcome, outcome, unlessRefused}
 use Rattle.reader_step.specs.Reader.{stepReader}
 use Rattle.writer.specs.Step.{stepWriter}
-use Rattle.dispatcher.specs.Circle.{nobody, partyAfter, partyDue}
-
--- the party has work underway
-unfoldable pub isAtWork : Record → ℕ → Bool
-isAtWork panel zero = not (isWriterIdle (panel .writer .work))
-isAtWork panel (suc reader) = not (isReaderIdle (workOf panel reader))
-
--- the party that a turn serves, or nobody
-unfoldable pub partyServed : Record → ℕ
-partyServed panel = partyDue (isAtWork panel) (panel .place)
+use Rattle.circle.specs.Circle.{nobody, partyAfter, partyServed}
 
 -- "A turn tests 1, then gives 5 .. where nobody is at work"
 unfoldable pub turnRefusal : ℕ → Record → ℕ

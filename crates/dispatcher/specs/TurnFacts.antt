@@ -3,7 +3,7 @@ use Prim.Native.Nat.{ℕ}
 use mathlib.Core.Path.{_≡_}
 use Rattle.record.specs.Parts.{withPlace}
 use Rattle.answers.specs.Answers.{served, Outcome}
-use Rattle.dispatcher.specs.Circle.{partyAfter}
+use Rattle.circle.specs.Circle.{partyAfter}
 
 -- but for the place, "a turn's step alone moves it", a turn leaves what the step of the party served leaves
 pub record LeavesAsStep (party : ℕ) (turn step : Outcome) : Type 0 where

@@ -1,20 +1,18 @@
 // The dispatcher: the writer and the sixteen readers take turns in a fixed circle, and a party without work is
 // passed over. A turn is the very step of the party that it serves.
-pub mod circle;
-
 ghost use Prim.Native.Nat.{ℕ};
 ghost use mathlib.Core.List.{List};
 ghost use mathlib.Core.Path.{_≡_};
 ghost use Rattle.answers.specs.Answers.{paperStep, paperTurn, outcome};
 ghost use Rattle.dispatcher.specs.Due.{turnAnswer, turnedBy, writerTurn, readerTurn};
 ghost use Rattle.dispatcher.specs.Turn.{takeTurn};
-use crate::circle::party_due;
-use crate::circle::place_after;
-use crate::circle::readers_marked;
 use answers::StepAnswer;
 use answers::StepOutcome;
 use answers::TurnAnswer;
 use answers::TurnOutcome;
+use circle::party_due;
+use circle::place_after;
+use circle::readers_marked;
 use record::Record;
 use record::parts::numbered_place;
 use record::parts::with_place;

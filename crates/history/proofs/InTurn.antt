@@ -19,8 +19,8 @@ use Rattle.plain_list.proofs.Agreement.{shows}
 use Rattle.search.proofs.SearchLaws.{some-left as search-left}
 use Rattle.effects.proofs.EffectLaws.{some-left as writer-left}
 use Rattle.command.specs.Command.{sentIn}
-use Rattle.dispatcher.specs.Circle.{nobody, partyDue}
-use Rattle.dispatcher.proofs.CircleLaws.{Due, due-works}
+use Rattle.circle.specs.Circle.{nobody, partyDue}
+use Rattle.circle.proofs.CircleLaws.{Due, due-works}
 use Rattle.calls.specs.declared.Call.{Call}
 use Rattle.calls.specs.declared.Call.the-variants.{StartLookup, StartWalk, StepReader, StartPut, StartChange, StartRemoval, StartCommand, StepWriter, Turn}
 use Rattle.history.specs.Log.{Reading, Role, writerStart, Log, isIdle, isNothing, hasWork, dueIn, stepOf, roleOf, servedBy}

@@ -18,9 +18,9 @@ use Rattle.record_ranges.proofs.Laws.{fields, with-place-in-range}
 use Rattle.answers.specs.Answers.{served, Outcome}
 use Rattle.reader_step.specs.Reader.{stepReader}
 use Rattle.writer.specs.Step.{stepWriter}
-use Rattle.dispatcher.specs.Circle.{nobody, partyAfter, partyDue}
-use Rattle.dispatcher.specs.Turn.{isAtWork, partyServed, turnRefusal, partyStep, afterTurn, takeTurn}
-use Rattle.dispatcher.proofs.CircleLaws.{after-low, same-party, Due}
+use Rattle.circle.specs.Circle.{nobody, partyAfter, partyDue, isAtWork, partyServed}
+use Rattle.dispatcher.specs.Turn.{turnRefusal, partyStep, afterTurn, takeTurn}
+use Rattle.circle.proofs.CircleLaws.{after-low, same-party, Due}
 use Rattle.dispatcher.proofs.TurnLaws.{someone-or-nobody}
 use Rattle.calls.specs.declared.Call.the-variants.{StepReader, StepWriter, Turn}
 use Rattle.history.specs.Log.{readerStep, writerStep, hasWork, dueIn, stepOf, roleOf, writingAfter, readingAfter, endedBy, endedNow, logAfter, isIdle, isNothing}

@@ -13,8 +13,8 @@ use lib.ListN.{length}
 use Rattle.conditions.specs.Conditions.{both}
 use Rattle.conditions.proofs.ConditionLaws.{both-with}
 use Rattle.answers.specs.Answers.{Answer, hasEnded, isStarted, isRefused, Outcome}
-use Rattle.dispatcher.specs.Circle.{partyAfter, partyDue}
-use Rattle.dispatcher.proofs.CircleLaws.{gap, gap-low, after-low, someone-due}
+use Rattle.circle.specs.Circle.{partyAfter, partyDue}
+use Rattle.circle.proofs.CircleLaws.{gap, gap-low, after-low, someone-due}
 use Rattle.plain_list.specs.PlainList.{nothing}
 use Rattle.history.specs.Log.{Reading, idle, Writing, writing, Role, readerStart, writerStart, Log, isIdle, isNothing, hasWork, dueIn, stepOf, writingAfter, readingAfter, servedBy, placeMoved, logAfter, freshLog}
 use Rattle.history.specs.World.{ReaderNotes, TurnNotes, noTurns, World, steppedWriter, writerStepped, writerNow, steppedReader, readerNow, turnsPassed, turnsNow, stepsOf, noted, freshWorld}

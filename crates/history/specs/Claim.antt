@@ -15,7 +15,7 @@ use Rattle.answers.specs.Answers.{Ending, Answer, started, underway, ended, wal
 use Rattle.plain_list.specs.PlainList.{Rows, absent, present, entryOf, lookupRow, Operation, nothing, put, change, removal, Each, Some, Shows}
 use Rattle.command.specs.declared.Sent.{Sent}
 use Rattle.command.specs.Command.{sentIn, frameRefusal}
-use Rattle.dispatcher.specs.Circle.{nobody}
+use Rattle.circle.specs.Circle.{nobody}
 use Rattle.calls.specs.declared.Call.{Call}
 use Rattle.calls.specs.declared.Call.the-variants.{StartLookup, StartWalk, StepReader, StartPut, StartChange, StartRemoval, StartCommand, StepWriter, Turn}
 use Rattle.history.specs.Log.{Request, Reading, idle, lookingUp, walking, Role, readerStart, readerStep, writerStart, writerStep, Given, Log, isIdle, isNothing, hasWork, dueIn, roleOf, lastGiven}

@@ -10,7 +10,7 @@ use Rattle.plain_list.specs.PlainList.{Operation, nothing, put, change, removal
 use Rattle.change.specs.Change.{actionMasks}
 use Rattle.command.specs.declared.Sent.{Sent}
 use Rattle.command.specs.Command.{sentIn}
-use Rattle.dispatcher.specs.Circle.{nobody, partyAfter, partyDue}
+use Rattle.circle.specs.Circle.{nobody, partyAfter, partyDue}
 use Rattle.calls.specs.declared.Call.{Call}
 use Rattle.calls.specs.declared.Call.the-variants.{StartLookup, StartWalk, StepReader, StartPut, StartChange, StartRemoval, StartCommand, StepWriter, Turn}
 

@@ -3,10 +3,10 @@
 ghost use mathlib.Core.Path.{_≡_};
 ghost use Rattle.conditions.specs.Conditions.{both};
 ghost use Rattle.record_ranges.specs.Ranges.{readerInRange, readersInRange, inRange};
-ghost use Rattle.dispatcher.specs.Marks.{markedWith, markedBehind, dueBy};
+ghost use Rattle.circle.specs.Marks.{markedWith, markedBehind, dueBy};
 use crate::ranges::are_stations_in_range;
+use circle::party_due;
 use conditions::both_hold;
-use dispatcher::circle::party_due;
 use record::Reader;
 use record::Record;
 use record::idle::is_reader_idle;

@@ -21,7 +21,7 @@ use answers::EntryAnswer;
 use answers::StartAnswer;
 use answers::StepAnswer;
 use answers::TurnAnswer;
-use dispatcher::circle::place_after;
+use circle::place_after;
 use dispatcher::turn_answer;
 use reader_starts::lookup_started;
 use reader_starts::walk_started;

@@ -6,7 +6,7 @@ use lib.ListN.{length}
 use borrow.Author.Needs.{needs}
 use borrow.Author.Tests.{eq-eqb, ne-eqb}
 use Rattle.record.proofs.Numbered.{mapped-length}
-use Rattle.dispatcher.specs.Marks.{dueBy}
+use Rattle.circle.specs.Marks.{dueBy}
 use Rattle.dispatcher.specs.Due.{writerTurn, readerTurn}
 use Rattle.dispatcher.proofs.TurnLaws.{dueOn, turn-by-due}
 use Rattle.dispatcher.proofs.turn.Statement.{statement}

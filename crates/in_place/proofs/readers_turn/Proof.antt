@@ -56,12 +56,12 @@ use Rattle.reader_step.proofs.step_work as step
 use Rattle.reader_step.proofs.step_work.Met as step-thm
 use Rattle.reader_step.proofs.step_work.Symbol as step-def
 use Rattle.reader_step.proofs.step_work.Symbol.{name as #step}
-use Rattle.dispatcher.specs.Marks.{placeAfter}
+use Rattle.circle.specs.Marks.{placeAfter}
 use Rattle.dispatcher.specs.Due.{turnAnswer, turnedBy, readerTurn}
-use Rattle.dispatcher.proofs.circle.place_after as next-place
-use Rattle.dispatcher.proofs.circle.place_after.Met as next-place-thm
-use Rattle.dispatcher.proofs.circle.place_after.Symbol as next-place-def
-use Rattle.dispatcher.proofs.circle.place_after.Symbol.{name as #next-place}
+use Rattle.circle.proofs.place_after as next-place
+use Rattle.circle.proofs.place_after.Met as next-place-thm
+use Rattle.circle.proofs.place_after.Symbol as next-place-def
+use Rattle.circle.proofs.place_after.Symbol.{name as #next-place}
 use Rattle.dispatcher.proofs.turn_answer as answer
 use Rattle.dispatcher.proofs.turn_answer.Met as answer-thm
 use Rattle.dispatcher.proofs.turn_answer.Symbol as answer-def

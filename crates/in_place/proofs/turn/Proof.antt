@@ -42,7 +42,7 @@ use denote.Triple.Table.{cited}
 use Rattle.answers.specs.Answers.{outcome, paperTurn}
 use Rattle.record.specs.declared.Record.{Record}
 use Rattle.record_ranges.specs.Ranges.{inRange}
-use Rattle.dispatcher.specs.Marks.{markedBehind, dueBy}
+use Rattle.circle.specs.Marks.{markedBehind, dueBy}
 use Rattle.dispatcher.specs.Due.{writerTurn, readerTurn}
 use Rattle.dispatcher.specs.Turn.{takeTurn}
 use Rattle.dispatcher.proofs.TurnLaws.{dueOn, turn-by-due}

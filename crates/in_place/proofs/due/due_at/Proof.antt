@@ -44,11 +44,11 @@ use Rattle.record_ranges.proofs.are_parts_in_range as parts
 use Rattle.record_ranges.proofs.are_parts_in_range.Met as parts-thm
 use Rattle.record_ranges.proofs.are_parts_in_range.Symbol as parts-def
 use Rattle.record_ranges.proofs.are_parts_in_range.Symbol.{name as #parts}
-use Rattle.dispatcher.specs.Marks.{markedBehind, dueBy}
-use Rattle.dispatcher.proofs.circle.party_due as due-of
-use Rattle.dispatcher.proofs.circle.party_due.Met as due-thm
-use Rattle.dispatcher.proofs.circle.party_due.Symbol as due-def
-use Rattle.dispatcher.proofs.circle.party_due.Symbol.{name as #due}
+use Rattle.circle.specs.Marks.{markedBehind, dueBy}
+use Rattle.circle.proofs.party_due as due-of
+use Rattle.circle.proofs.party_due.Met as due-thm
+use Rattle.circle.proofs.party_due.Symbol as due-def
+use Rattle.circle.proofs.party_due.Symbol.{name as #due}
 use Rattle.in_place.specs.declared.due.Seen.{Seen as Seen·Seen}
 use Rattle.in_place.proofs.Calls.{calls-plain}
 use Rattle.in_place.proofs.Frame.{spread, gather, free-rooms}

@@ -5,7 +5,7 @@ use borrow.Author.Needs.{needs}
 use Rattle.conditions.proofs.ConditionLaws.{both-with}
 use Rattle.record_ranges.specs.Ranges.{readerInRange}
 use Rattle.record_ranges.proofs.Laws.{idle-in-range}
-use Rattle.dispatcher.specs.Marks.{markedWith}
+use Rattle.circle.specs.Marks.{markedWith}
 use Rattle.in_place.proofs.due.reader_seen.Statement.{statement}
 use Rattle.in_place.proofs.due.reader_seen.Tie as tie
 

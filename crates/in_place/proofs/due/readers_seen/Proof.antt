@@ -21,7 +21,7 @@ use denote.Triple.End.{lastsOf}
 use denote.Triple.Spec.{tripleOf}
 use denote.Triple.Table.{cited}
 use Rattle.conditions.specs.Conditions.{both}
-use Rattle.dispatcher.specs.Marks.{markedWith, markedBehind}
+use Rattle.circle.specs.Marks.{markedWith, markedBehind}
 use Rattle.record.specs.declared.Reader.{Reader as Reader·Reader}
 use Rattle.record.specs.Parts.{idleReader}
 use Rattle.record.proofs.Reader as Reader

@@ -1,10 +1,10 @@
--- `dispatcher::circle::all_marked` meets its contract: the writer's digit is 0 or 1 by the test.
+-- `circle::all_marked` meets its contract: the writer's digit is 0 or 1 by the test.
 use mathlib.Core.Path.{sym, _∙_}
 use native.Mathlib.Omega.{arith}
 use borrow.Author.Needs.{needs}
-use Rattle.dispatcher.specs.Marks.{allMarked}
-use Rattle.dispatcher.proofs.circle.all_marked.Statement.{statement}
-use Rattle.dispatcher.proofs.circle.all_marked.Tie as tie
+use Rattle.circle.specs.Marks.{allMarked}
+use Rattle.circle.proofs.all_marked.Statement.{statement}
+use Rattle.circle.proofs.all_marked.Tie as tie
 
 is-writer-idle-requires : tie.Need-is-writer-idle-requires
 is-writer-idle-requires c κs = search needs

@@ -8,7 +8,7 @@ use native.Mathlib.Omega.{arith}
 use native.Mathlib.Decide.{ℕ-discrete}
 use borrow.Author.Tests.{ltb-true, ltb-false, leb-true, leb-false}
 use lib.Dec.{ltb, leb}
-use Rattle.dispatcher.specs.Circle.{nobody, partyAfter, firstAtWork, partyDue}
+use Rattle.circle.specs.Circle.{nobody, partyAfter, firstAtWork, partyDue}
 
 -- the party after another is one of the seventeen
 pub after-low : (party : ℕ) → partyAfter party ≤ 16

@@ -1,13 +1,13 @@
--- `dispatcher::circle::readers_marked` meets its contract: the readers that are left, behind the marks so far, give the marks of all.
+-- `circle::readers_marked` meets its contract: the readers that are left, behind the marks so far, give the marks of all.
 use Prim.Native.Nat.{_≤_, _-_}
 use mathlib.Core.Path.{_≡_, _∙_, sym, refl}
 use native.Mathlib.Omega.{arith}
 use borrow.Author.Needs.{needs}
 use lib.ListN.{length, drop}
-use Rattle.dispatcher.specs.Marks.{markedBehind}
-use Rattle.dispatcher.proofs.MarksLaws.{marked-next, marked-done}
-use Rattle.dispatcher.proofs.circle.readers_marked.Statement.{statement}
-use Rattle.dispatcher.proofs.circle.readers_marked.Tie as tie
+use Rattle.circle.specs.Marks.{markedBehind}
+use Rattle.circle.proofs.MarksLaws.{marked-next, marked-done}
+use Rattle.circle.proofs.readers_marked.Statement.{statement}
+use Rattle.circle.proofs.readers_marked.Tie as tie
 
 abbrev Inv-loop : tie.InvT-loop
 Inv-loop readers marks₀ i₀ marks i = (i ≤ 16) × (length readers ≡ 16) × (markedBehind marks (drop i readers) ≡ markedBehind 0 readers)

@@ -20,9 +20,9 @@ use Rattle.record.specs.declared.Reader.{Reader}
 use Rattle.record.specs.declared.WriterWork.{WriterWork}
 use Rattle.record.specs.Parts.{idleReader, workOf}
 use Rattle.record.specs.Idle.{isReaderIdle, isWriterIdle}
-use Rattle.dispatcher.specs.Turn.{isAtWork}
-use Rattle.dispatcher.specs.Marks.{markedWith, markedBehind, allMarked, isMarked, dueBy}
-use Rattle.dispatcher.proofs.HighestDigit.{digit-kept, highest, highest-none, highest-some, leading-enough, told-due, from-place}
+use Rattle.circle.specs.Circle.{isAtWork}
+use Rattle.circle.specs.Marks.{markedWith, markedBehind, allMarked, isMarked, dueBy}
+use Rattle.circle.proofs.HighestDigit.{digit-kept, highest, highest-none, highest-some, leading-enough, told-due, from-place}
 
 -- the writer's digit, and those of the readers behind it
 module _ (work : WriterWork) (marks : ℕ) where

@@ -1,8 +1,8 @@
 // The circle of seventeen parties: 0 is the writer, n + 1 reader n, and 17 stands for nobody. Which readers
 // have work is told by marks, a number of sixteen binary digits, reader 15's the lowest: 1 for work.
 ghost use mathlib.Core.Path.{_≡_};
-ghost use Rattle.dispatcher.specs.Circle.{partyAfter};
-ghost use Rattle.dispatcher.specs.Marks.{markedWith, markedBehind, allMarked, dueBy, placeAfter};
+ghost use Rattle.circle.specs.Circle.{partyAfter};
+ghost use Rattle.circle.specs.Marks.{markedWith, markedBehind, allMarked, dueBy, placeAfter};
 use conditions::both_hold;
 use record::Reader;
 use record::Writer;

@@ -1,9 +1,9 @@
--- `dispatcher::circle::party_after` meets its contract, by its test.
+-- `circle::party_after` meets its contract, by its test.
 use borrow.Author.Needs.{needs}
 use borrow.Author.Tests.{lt-ltb, le-ltb}
-use Rattle.dispatcher.specs.Circle.{partyAfter}
-use Rattle.dispatcher.proofs.circle.party_after.Statement.{statement}
-use Rattle.dispatcher.proofs.circle.party_after.Tie as tie
+use Rattle.circle.specs.Circle.{partyAfter}
+use Rattle.circle.proofs.party_after.Statement.{statement}
+use Rattle.circle.proofs.party_after.Tie as tie
 
 add-result : tie.Need-add-result
 add-result c = search needs

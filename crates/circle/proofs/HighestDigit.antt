@@ -11,7 +11,7 @@ use lib.Count.{leadingZeros, leading-of-zero, leading-length, leading-unique}
 use lib.Bits.{bitAnd, and-mask}
 use lib.Pow.{pow-pos, pow-mono, pow-add, shl-shr, field, mod-mod-pow, mod-pow-add}
 use Rattle.conditions.proofs.ConditionLaws.{cond-holds}
-use Rattle.dispatcher.specs.Circle.{nobody, partyAfter, firstAtWork, partyDue}
+use Rattle.circle.specs.Circle.{nobody, partyAfter, firstAtWork, partyDue}
 
 -- a number that is cut to so many digits keeps each of these
 pub digit-kept : (width x i : ℕ) → i < width → x % 2 ^ width / 2 ^ i % 2 ≡ x / 2 ^ i % 2

@@ -1,12 +1,12 @@
--- `dispatcher::circle::party_due` meets its contract: the zeros in front of the digits tell the party of the highest.
+-- `circle::party_due` meets its contract: the zeros in front of the digits tell the party of the highest.
 use mathlib.Core.Path.{sym, _∙_}
 use native.Mathlib.Omega.{arith}
 use borrow.Author.Needs.{needs}
 use borrow.Author.Tests.{not-true, not-false}
-use Rattle.dispatcher.proofs.HighestDigit.{shifted-some}
-use Rattle.dispatcher.proofs.MarksLaws.{place-within, due-outside, cut-leads, all-leads, due-around, due-ahead}
-use Rattle.dispatcher.proofs.circle.party_due.Statement.{statement}
-use Rattle.dispatcher.proofs.circle.party_due.Tie as tie
+use Rattle.circle.proofs.HighestDigit.{shifted-some}
+use Rattle.circle.proofs.MarksLaws.{place-within, due-outside, cut-leads, all-leads, due-around, due-ahead}
+use Rattle.circle.proofs.party_due.Statement.{statement}
+use Rattle.circle.proofs.party_due.Tie as tie
 
 both-hold-requires : tie.Need-both-hold-requires
 both-hold-requires c κs = search needs

@@ -7,7 +7,7 @@ use Rattle.conditions.specs.Conditions.{both}
 use Rattle.record.specs.declared.Reader.{Reader}
 use Rattle.record.specs.declared.WriterWork.{WriterWork}
 use Rattle.record.specs.Idle.{isReaderIdle, isWriterIdle}
-use Rattle.dispatcher.specs.Circle.{partyAfter, partyDue}
+use Rattle.circle.specs.Circle.{partyAfter, partyDue}
 
 -- one more reader's digit behind the others, in a number of 32 bits
 unfoldable pub markedWith : ℕ → Reader → ℕ

@@ -1,9 +1,9 @@
--- `dispatcher::circle::place_after` meets its contract, by its test.
+-- `circle::place_after` meets its contract, by its test.
 use borrow.Author.Needs.{needs}
 use borrow.Author.Tests.{lt-ltb, le-ltb}
-use Rattle.dispatcher.specs.Marks.{placeAfter}
-use Rattle.dispatcher.proofs.circle.place_after.Statement.{statement}
-use Rattle.dispatcher.proofs.circle.place_after.Tie as tie
+use Rattle.circle.specs.Marks.{placeAfter}
+use Rattle.circle.proofs.place_after.Statement.{statement}
+use Rattle.circle.proofs.place_after.Tie as tie
 
 party-after-requires : tie.Need-party-after-requires
 party-after-requires c κs = search needs

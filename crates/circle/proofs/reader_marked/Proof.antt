@@ -1,10 +1,10 @@
--- `dispatcher::circle::reader_marked` meets its contract: the digit is 0 or 1 by the test.
+-- `circle::reader_marked` meets its contract: the digit is 0 or 1 by the test.
 use mathlib.Core.Path.{sym, _∙_}
 use native.Mathlib.Omega.{arith}
 use borrow.Author.Needs.{needs}
-use Rattle.dispatcher.specs.Marks.{markedWith}
-use Rattle.dispatcher.proofs.circle.reader_marked.Statement.{statement}
-use Rattle.dispatcher.proofs.circle.reader_marked.Tie as tie
+use Rattle.circle.specs.Marks.{markedWith}
+use Rattle.circle.proofs.reader_marked.Statement.{statement}
+use Rattle.circle.proofs.reader_marked.Tie as tie
 
 wrapping-add-u32-requires : tie.Need-wrapping-add-u32-requires
 wrapping-add-u32-requires c κs = search needs

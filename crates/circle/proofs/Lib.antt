@@ -1,0 +1,3 @@
+pub mod CircleLaws
+pub mod HighestDigit
+pub mod MarksLaws

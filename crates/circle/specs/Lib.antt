@@ -1,0 +1,2 @@
+pub mod Circle
+pub mod Marks

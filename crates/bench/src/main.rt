@@ -99,7 +99,7 @@ struct Run {
 }
 
 // Every line behind the first. Such a loop has to end, and nothing says that the input does: it counts
-// its turns down, from a number that no run uses up.
+// its iterations down, from a number that no run uses up.
 fn run_lines(begun: Run, slots: &mut [u64], bytes: &mut [u8], text: &mut [u8]) -> Run {
     let mut run = begun;
     let mut turns = u64::MAX;

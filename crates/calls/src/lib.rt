@@ -1,5 +1,5 @@
-// Any call of document 01, and N1's turn, as a value, and `apply`, which carries it out. The claim about every list of such
-// calls stands in the crate `history`.
+// Any call of document 01, and N1's turn, as a value, and `apply`, which carries it out. The claim about
+// every list of such calls stands in the crate `history`.
 pub mod outcomes;
 
 ghost use mathlib.Core.Path.{_≡_};

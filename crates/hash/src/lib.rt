@@ -148,7 +148,7 @@ pub fn generated(n: u32) -> u32
     value
 }
 
-// One turn of the recurrence: the generator's next value.
+// One iteration of the recurrence: the generator's next value.
 pub fn next(value: u32) -> u32
     ensures { λ r. ⌜ r ≡ nextOf value ⌝ }
 {

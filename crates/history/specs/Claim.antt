@@ -195,7 +195,10 @@ pub record WorldRight (m k : ℕ) (world : World) : Type 0 where
 abbrev pub Holds : ℕ → ℕ → World → List Request → Type 0
 Holds m k world [] = WorldRight m k world
 Holds m k world (request ∷ rest) =
-    WorldRight m k world × Right m k world (next world request) (request .call) (request .frame) (outcomeOf world request .answer) × StepInTurn m k world (next world request) (roleOf (request .call) (request .frame) (outcomeOf world request .answer)) (outcomeOf world request .answer) × Holds m k (next world request) rest
+    WorldRight m k world
+    × Right m k world (next world request) (request .call) (request .frame) (outcomeOf world request .answer)
+    × StepInTurn m k world (next world request) (roleOf (request .call) (request .frame) (outcomeOf world request .answer)) (outcomeOf world request .answer)
+    × Holds m k (next world request) rest
 
 -- the claim
 abbrev pub Claim : ℕ → ℕ → List Request → Type 0

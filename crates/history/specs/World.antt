@@ -1,6 +1,6 @@
 -- A list of calls, from a fresh panel on: the record and the slots as `apply` leaves them, the log of the calls and their answers, the plain list beside them, and what
--- is noted of each operation underway, also of the turns it has seen, so that the claim can speak of it. When the plain list is fed goes by the writer's accesses; of the record nothing else is looked
--- at but m and k.
+-- is noted of each operation underway, the turns that it has seen included, so that the claim can speak of it. When the plain list is fed goes by the writer's accesses;
+-- of the record nothing else is looked at but m and k.
 use Prim.Native.Nat.{ℕ, zero, suc, _+_}
 use mathlib.Core.Bool.{Bool, false, cond, not}
 use mathlib.Core.List.{List, [], _∷_, _++_}

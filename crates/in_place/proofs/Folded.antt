@@ -60,15 +60,15 @@ module _ {D X : Type 0} (P : D → Type 0) (step : D → X → D) (start : D) (n
   pub record State : Type 0 where
     pub i : ℕ
     pub seen : D
-    -- the turns so far, of two elements each
-    pub turns : ℕ
-    pub twice : i ≡ turns + turns
+    -- the iterations so far, of two elements each
+    pub iterations : ℕ
+    pub twice : i ≡ iterations + iterations
     pub upto : i ≤ length xs
     pub is : P seen
     pub so : folded step seen (drop i xs) ≡ folded step start xs
 
   pub begins : P start → State
-  begins is = record { i = 0; seen = start; turns = 0; twice = refl; upto = omega arith; is = is; so = refl }
+  begins is = record { i = 0; seen = start; iterations = 0; twice = refl; upto = omega arith; is = is; so = refl }
 
   -- one element more is seen
   one-seen : (seen : D) (i : ℕ) → i < length xs → folded step (step seen (getD xs i none)) (drop (suc i) xs) ≡ folded step seen (drop i xs)
@@ -79,7 +79,7 @@ module _ {D X : Type 0} (P : D → Type 0) (step : D → X → D) (start : D) (n
     goes-on l one two e₁ e₂ is = record {
       i = suc (suc (t .i));
       seen = two;
-      turns = suc (t .turns);
+      iterations = suc (t .iterations);
       twice = omega arith;
       upto = l;
       is = is;
@@ -107,8 +107,8 @@ module _ (n f : ℕ) (τ ρ : Ty) (τs : List Ty) (start : RValue) (#step : Name
   abbrev next-of : Code
   next-of = assign (place (number 1) []) (op2 (add unsigned) (copy (place (number 1) [])) (int w64 1))
 
-  abbrev turn-of : Code
-  turn-of = seq (assign (place (number 2) []) (op2 (lt unsigned) (copy (place (number 1) [])) (int w64 n)))
+  abbrev iteration-of : Code
+  iteration-of = seq (assign (place (number 2) []) (op2 (lt unsigned) (copy (place (number 1) [])) (int w64 n)))
       (seq (cond (copy (place (number 2) [])) skip (exit 1)) (one-of 4 (seq next-of (one-of 7 next-of))))
 
   abbrev rest : Code
@@ -121,7 +121,7 @@ module _ (n f : ℕ) (τ ρ : Ty) (τs : List Ty) (start : RValue) (#step : Name
     params = past τs 1;
     locals = local ρ valueLocal ∷ local (tyRef (named 0) imm (pointee (row .written))) valueLocal
         ∷ (locals τs ++ (local ρ valueLocal ∷ local (tyInt w64) valueLocal ∷ local tyBool valueLocal ∷ local (tyInt w64) valueLocal ∷ local tyPtr valueLocal ∷ local tyPtr valueLocal ∷ local τ valueLocal ∷ local tyPtr valueLocal ∷ local tyPtr valueLocal ∷ []));
-    body = seq (assign (place (number 0) []) start) (seq (assign (place (number 1) []) (rvOpd (int w64 0))) (seq (block (loop turn-of)) rest));
+    body = seq (assign (place (number 0) []) start) (seq (assign (place (number 1) []) (rvOpd (int w64 0))) (seq (block (loop iteration-of)) rest));
   }
 
 -- ---- numbers
@@ -135,8 +135,8 @@ by-number : (i n : ℕ) → suc i < n → n - suc (suc i) < n - i
 by-number i n l = omega arith
 
 -- below an even number, an even number and the one after it
-both-below : (i turns n half : ℕ) → i ≡ turns + turns → n ≡ half + half → i < n → suc i < n
-both-below i turns n half e e′ l = omega arith
+both-below : (i iterations n half : ℕ) → i ≡ iterations + iterations → n ≡ half + half → i < n → suc i < n
+both-below i iterations n half e e′ l = omega arith
 
 -- ---- the walk
 module _ (F : Field) (L : LL.FLaws F) (n f d : ℕ) (τ : Ty) (at : fieldOf recordTy f ≡ some (tyArray τ n, d)) (none : F .Value) (field-of : Record → List (F .Value))
@@ -184,17 +184,17 @@ module _ (F : Field) (L : LL.FLaws F) (n f d : ℕ) (τ : Ty) (at : fieldOf reco
   abbrev Told : Seen → Type 0
   Told seen = Is (N .row) seen (N .val seen ∷ [])
 
-  abbrev Turns : Type 0
-  Turns = State Told step start none (field-of h)
+  abbrev Iterations : Type 0
+  Iterations = State Told step start none (field-of h)
 
   abbrev size-of : ℕ
   size-of = length (field-of h)
 
-  abbrev Nearer : Turns → Turns → Type 0
+  abbrev Nearer : Iterations → Iterations → Type 0
   Nearer t′ t = size-of - t′ .i < size-of - t .i
 
   nearer-wf : WellFounded Nearer
-  nearer-wf = InvImage·wf (λ (t : Turns). size-of - t .i) (Nat·lt-wfRel .wf)
+  nearer-wf = InvImage·wf (λ (t : Iterations). size-of - t .i) (Nat·lt-wfRel .wf)
 
   abbrev Post : Val → SProp 𝓤
   Post = Exit N ps 𝓤 H A c κs qs x a γ
@@ -218,22 +218,22 @@ module _ (F : Field) (L : LL.FLaws F) (n f d : ℕ) (τ : Ty) (at : fieldOf reco
         ∷ ‵ (fat fullShare refTy l₁ 0 (vptr b o)) ∷ ‵ (cells τs bs vs) ∷ ‵ (froom ρ l₀ 0) ∷ ‵ (fobor κ q (partAt row q′ h b o))
         ∷ ‵ (fdies ρ l₀) ∷ ‵ (fdies refTy l₁) ∷ ‵ (fdies ρ l₂) ∷ ‵ (fdies word l₃) ∷ ‵ (fdies tyBool l₄) ∷ ‵ (fdies word l₅) ∷ ‵ (fdies tyPtr l₆) ∷ ‵ (fdies tyPtr l₇) ∷ ‵ (fdies τ l₈) ∷ ‵ (fdies tyPtr l₉) ∷ ‵ (fdies tyPtr l₁₀) ∷ []
 
-    -- where a turn begins
-    abbrev At : Turns → List (Item 𝓤)
+    -- where an iteration begins
+    abbrev At : Iterations → List (Item 𝓤)
     At t = Around (t .seen) (t .i) l₆ l₇ l₉ l₁₀
 
-    -- a turn ends nearer to the end, or the loop is left and the rest of the body runs
-    abbrev Turned : Turns → Out → SProp 𝓤
-    Turned t = afterTurn 𝓤 H (Below 𝓤 H A Nearer At t) (afterBlock 𝓤 H (afterSeq 𝓤 H (Wp 𝓤 H (𝓣 .C) (𝓣 .Λ) En (rest n f τ ρ τs begin #step) (atReturn 𝓤 H En Post)) (atReturn 𝓤 H En Post)))
+    -- an iteration ends nearer to the end, or the loop is left and the rest of the body runs
+    abbrev Iterated : Iterations → Out → SProp 𝓤
+    Iterated t = afterTurn 𝓤 H (Below 𝓤 H A Nearer At t) (afterBlock 𝓤 H (afterSeq 𝓤 H (Wp 𝓤 H (𝓣 .C) (𝓣 .Λ) En (rest n f τ ρ τs begin #step) (atReturn 𝓤 H En Post)) (atReturn 𝓤 H En Post)))
 
     -- the loop ends with all elements folded
-    ended-with : (t : Turns) → ltb (t .i) n ≡ false → ent 𝓤 (sem 𝓤 H A (flft κ q)) (Post (N .val (t .seen)))
+    ended-with : (t : Iterations) → ltb (t .i) n ≡ false → ent 𝓤 (sem 𝓤 H A (flft κ q)) (Post (N .val (t .seen)))
     ended-with t over = ends-with N ps 𝓤 H A c κs qs x a γ W (t .seen) (t .is) l quiet (so (t .seen) (ends Told step start none (field-of h) t (subst (λ (k : ℕ). k ≤ t .i) (sym number-is) (ltb-false (t .i) n over))))
 
     n-fits : n < 2 ^ 64
     n-fits = ltb→lt n (2 ^ 64) n-written
 
-    nearer : (t : Turns) → suc (t .i) < n → size-of - suc (suc (t .i)) < size-of - t .i
+    nearer : (t : Iterations) → suc (t .i) < n → size-of - suc (suc (t .i)) < size-of - t .i
     nearer t l = by-number (t .i) size-of (subst (λ (k : ℕ). suc (t .i) < k) (sym number-is) l)
 
     -- an element is seen
@@ -259,8 +259,8 @@ module _ (F : Field) (L : LL.FLaws F) (n f d : ℕ) (τ : Ty) (at : fieldOf reco
         is-y : Is (F .row) (F .into y) (field-val F L y ∷ [])
         is-y = is-element F L n (field-of h) _ (holds-of h is) i none less
 
-    -- a turn that sees two elements
-    sees : (t : Turns) → ltb (t .i) n ≡ true → Sq W (At t) (runs (𝓣 .C) (𝓣 .Λ) En (turn-of n f τ ρ τs begin #step) (anyQ (Turned t)))
+    -- an iteration that sees two elements
+    sees : (t : Iterations) → ltb (t .i) n ≡ true → Sq W (At t) (runs (𝓣 .C) (𝓣 .Λ) En (iteration-of n f τ ρ τs begin #step) (anyQ (Iterated t)))
     unfolding afterTurn goes-on
     sees t yet =
         assigns ! (bin ! (load ! (found-local ! (is-at 1) (stop !)) (look ! 2 refl)) (lit ! n-written) tt) (found-local ! (is-at 2) (stop !)) (init ! 3 refl (tt, tt)) $
@@ -277,10 +277,10 @@ module _ (F : Field) (L : LL.FLaws F) (n f d : ℕ) (τ : Ty) (at : fieldOf reco
         less = ltb-true (t .i) n yet
 
         second-less : suc (t .i) < n
-        second-less = both-below (t .i) (t .turns) n half (t .twice) even less
+        second-less = both-below (t .i) (t .iterations) n half (t .twice) even less
 
-    -- the turn that leaves the loop, and the rest of the body
-    leaves : (t : Turns) → ltb (t .i) n ≡ false → Sq W (At t) (runs (𝓣 .C) (𝓣 .Λ) En (turn-of n f τ ρ τs begin #step) (anyQ (Turned t)))
+    -- the iteration that leaves the loop, and the rest of the body
+    leaves : (t : Iterations) → ltb (t .i) n ≡ false → Sq W (At t) (runs (𝓣 .C) (𝓣 .Λ) En (iteration-of n f τ ρ τs begin #step) (anyQ (Iterated t)))
     unfolding afterTurn
     leaves t over =
         assigns ! (bin ! (load ! (found-local ! (is-at 1) (stop !)) (look ! 2 refl)) (lit ! n-written) tt) (found-local ! (is-at 2) (stop !)) (init ! 3 refl (tt, tt)) $
@@ -293,12 +293,12 @@ module _ (F : Field) (L : LL.FLaws F) (n f d : ℕ) (τ : Ty) (at : fieldOf reco
         move ! (1 ∷ 4 ∷ []) $ free1 ! $ move ! (1 ∷ 3 ∷ []) $ free1 ! $ move ! (1 ∷ 2 ∷ []) $ free1 ! $ free0 ! $
         by ! (ended-with t over)
 
-    turn : (t : Turns) (y : Bool) → ltb (t .i) n ≡ y → Sq W (At t) (runs (𝓣 .C) (𝓣 .Λ) En (turn-of n f τ ρ τs begin #step) (anyQ (Turned t)))
-    turn t true test = sees t test
-    turn t false test = leaves t test
+    iteration : (t : Iterations) (y : Bool) → ltb (t .i) n ≡ y → Sq W (At t) (runs (𝓣 .C) (𝓣 .Λ) En (iteration-of n f τ ρ τs begin #step) (anyQ (Iterated t)))
+    iteration t true test = sees t test
+    iteration t false test = leaves t test
 
-    pub looped : Sq W (At (begins Told step start none (field-of h) is-start)) (runs (𝓣 .C) (𝓣 .Λ) En (seq (block (loop (turn-of n f τ ρ τs begin #step))) (rest n f τ ρ τs begin #step)) (atRet En Post))
-    looped = first ! $ blocks ! $ loops ! 𝓣 Nearer nearer-wf At (λ t. turn t (ltb (t .i) n) refl) (begins Told step start none (field-of h) is-start)
+    pub looped : Sq W (At (begins Told step start none (field-of h) is-start)) (runs (𝓣 .C) (𝓣 .Λ) En (seq (block (loop (iteration-of n f τ ρ τs begin #step))) (rest n f τ ρ τs begin #step)) (atRet En Post))
+    looped = first ! $ blocks ! $ loops ! 𝓣 Nearer nearer-wf At (λ t. iteration t (ltb (t .i) n) refl) (begins Told step start none (field-of h) is-start)
 
   pub walk : ent 𝓤 (mean 𝓤 H A (Entry N ps 𝓤 H A c κs qs x a γ)) (WpFn 𝓤 H (𝓣 .C) (𝓣 .Λ) (function n f τ ρ τs begin #step) (vptr b o ∷ vs) Post)
   unfolding begins

@@ -39,6 +39,7 @@ fn reader_seen(before: Seen, reader: Reader, m: u32, k: u32) -> Seen
     }
 }
 
+// All readers, two an iteration, as in `ranges`.
 fn readers_seen(panel: &Record, m: u32, k: u32) -> Seen
     ensures { λ r. ⌜ (r .fit ≡ readersInRange m k (now (panel .entry) .readers)) × (r .marks ≡ markedBehind 0 (now (panel .entry) .readers)) ⌝ }
 {

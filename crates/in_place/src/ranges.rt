@@ -1,5 +1,5 @@
 // The ranges of a record behind a reference: its arrays are tested where they are. The loops test two
-// elements a turn, which halves what a loop costs besides its tests.
+// elements an iteration, which halves what a loop costs besides its tests.
 ghost use mathlib.Core.Path.{_≡_};
 ghost use Rattle.record_ranges.specs.Ranges.{readersInRange, stationsInRange, inRange};
 use record::Record;

@@ -2,8 +2,8 @@ pub mod Again
 pub mod Lending
 pub mod Lent
 pub mod LentLocal
+pub mod Loop
+pub mod LoopMet
+pub mod LoopMut
+pub mod LoopShared
 pub mod Panel
-pub mod Turns
-pub mod TurnsMet
-pub mod TurnsMut
-pub mod TurnsShared

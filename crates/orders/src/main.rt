@@ -74,7 +74,7 @@ struct Progress {
     length: usize,
 }
 
-// Such a loop has to end, and nothing says that the input does: it counts its turns down, from a number
+// Such a loop has to end, and nothing says that the input does: it counts its iterations down, from a number
 // that no run uses up.
 fn run_input(
     begun: Progress,

@@ -83,7 +83,7 @@ pub fn are_sizes_in_range(m: u32, k: u32, lent: usize) -> bool
     )
 }
 
-// Whether what was tested before and this reader are in range: a turn of a loop over readers behind a
+// Whether what was tested before and this reader are in range: an iteration of a loop over readers behind a
 // reference, which no function by value has. Most readers have no work, and leave nothing to test.
 pub fn reader_joined(before: bool, reader: Reader, m: u32, k: u32) -> bool
     ensures { λ r. ⌜ r ≡ both before (readerInRange m k reader) ⌝ }

@@ -1,4 +1,4 @@
--- `bench::run_whole_lines` ends: it counts its turns down.
+-- `bench::run_whole_lines` ends: it counts its iterations down.
 use mathlib.Core.Path.{_≡_, _∙_}
 use native.Mathlib.Omega.{arith}
 use lib.ListN.{length}

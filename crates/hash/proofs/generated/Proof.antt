@@ -1,4 +1,4 @@
--- `hash::generated` meets its contract: after `counter` turns the value is z(counter).
+-- `hash::generated` meets its contract: after `counter` iterations the value is z(counter).
 use Prim.Native.Nat.{_≤_, _-_}
 use mathlib.Core.Path.{_≡_, refl, sym, ap, _∙_}
 use native.Mathlib.Numerals.{add-one}

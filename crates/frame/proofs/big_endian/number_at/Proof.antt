@@ -1,4 +1,4 @@
--- `frame::big_endian::number_at` meets its contract: after i turns the number is that of the first i bytes, below 256 ^ i.
+-- `frame::big_endian::number_at` meets its contract: after i iterations the number is that of the first i bytes, below 256 ^ i.
 use Prim.Native.Nat.{_≤_, _-_}
 use mathlib.Core.Path.{_≡_, refl}
 use native.Mathlib.Numerals.{add-one}

@@ -1,5 +1,5 @@
--- `step_speed::lending::lookup_starts` is safe and ends: by the one walk of all such functions (`Turns.antt` of `lent_record`).
--- What that asks: how the arguments are made in a turn, that the code is the walk's, and that the callees meet their contracts.
+-- `step_speed::lending::lookup_starts` is safe and ends: by the one walk of all such functions (`Loop.antt` of `lent_record`).
+-- What that asks: how the arguments are made in an iteration, that the code is the walk's, and that the callees meet their contracts.
 use Prim.Native.Nat.{ℕ, _<_, _^_, _+_}
 use native.Mathlib.Omega.{arith}
 use mathlib.Core.List.{[], _∷_, List}
@@ -22,9 +22,9 @@ use Rattle.in_place.proofs.start_lookup.Symbol.{name as #callee}
 use Rattle.in_place.proofs.Locals.{at-entry, in-tail}
 use Rattle.in_place.proofs.Panel.{start-outcome}
 use Rattle.in_place.proofs.Params.{Param, number}
-use Rattle.lent_record.proofs.Turns.{Arguments}
-use Rattle.lent_record.proofs.TurnsMet.{safe, sum-ended, turns}
-use Rattle.lent_record.proofs.TurnsShared.{shared, shared-stay, shared-callee, shared-goes, shared-kept, shared-calls}
+use Rattle.lent_record.proofs.Loop.{Arguments}
+use Rattle.lent_record.proofs.LoopMet.{safe, sum-ended, iterations}
+use Rattle.lent_record.proofs.LoopShared.{shared, shared-stay, shared-callee, shared-goes, shared-kept, shared-calls}
 use Rattle.step_speed.proofs.sums.with_start as sum
 use Rattle.step_speed.proofs.sums.with_start.Met as sum-thm
 use Rattle.step_speed.proofs.sums.with_start.Symbol as sum-def
@@ -54,7 +54,7 @@ small fits = omega (fits, arith)
 pub lookup-starts-spec : {M : Type 1} → statement M
 unfolding code.routine
 lookup-starts-spec 𝓤 H 𝓜 𝓖 𝓡 =
-    turns start-outcome shared shared-stay 𝓤 H 𝓜 𝓖 𝓡 (shared-kept 𝓤 H (𝓖 .A) (givenOf 𝓤 H 𝓜 𝓖) start-outcome) (λ κs x i. shared .val κs x ∷ vint w32 i ∷ vint w32 (i + 1) ∷ [])
+    iterations start-outcome shared shared-stay 𝓤 H 𝓜 𝓖 𝓡 (shared-kept 𝓤 H (𝓖 .A) (givenOf 𝓤 H 𝓜 𝓖) start-outcome) (λ κs x i. shared .val κs x ∷ vint w32 i ∷ vint w32 (i + 1) ∷ [])
     code.env #self #callee #sum arguments code.function (code.unfolded 𝓤 H 𝓜 𝓡) refl
     (λ κs x n fits is. record {
       us = λ i. vint w32 (i + 1) ∷ [];

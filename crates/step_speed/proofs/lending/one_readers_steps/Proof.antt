@@ -1,5 +1,5 @@
--- `step_speed::lending::one_readers_steps` is safe and ends: by the one walk of all such functions (`Turns.antt` of `lent_record`).
--- What that asks: how the arguments are made in a turn, that the code is the walk's, and that the callees meet their contracts.
+-- `step_speed::lending::one_readers_steps` is safe and ends: by the one walk of all such functions (`Loop.antt` of `lent_record`).
+-- What that asks: how the arguments are made in an iteration, that the code is the walk's, and that the callees meet their contracts.
 use Prim.Native.Nat.{_<_, _^_}
 use native.Mathlib.Omega.{arith}
 use mathlib.Core.List.{[], _∷_, List}
@@ -21,9 +21,9 @@ use Rattle.in_place.proofs.step_reader.Symbol as callee-def
 use Rattle.in_place.proofs.step_reader.Symbol.{name as #callee}
 use Rattle.in_place.proofs.Panel.{step-outcome}
 use Rattle.in_place.proofs.Params.{Param, number}
-use Rattle.lent_record.proofs.Turns.{Arguments}
-use Rattle.lent_record.proofs.TurnsMet.{safe, sum-ended, turns}
-use Rattle.lent_record.proofs.TurnsShared.{shared, shared-stay, shared-callee, shared-goes, shared-kept, shared-calls}
+use Rattle.lent_record.proofs.Loop.{Arguments}
+use Rattle.lent_record.proofs.LoopMet.{safe, sum-ended, iterations}
+use Rattle.lent_record.proofs.LoopShared.{shared, shared-stay, shared-callee, shared-goes, shared-kept, shared-calls}
 use Rattle.step_speed.proofs.sums.with_step as sum
 use Rattle.step_speed.proofs.sums.with_step.Met as sum-thm
 use Rattle.step_speed.proofs.sums.with_step.Symbol as sum-def
@@ -36,7 +36,7 @@ use Rattle.step_speed.proofs.lending.one_readers_steps.Statement.{state
 abbrev ps : List (Param 2)
 ps = number ∷ []
 
--- the reader is 5 in every turn, and no local is made
+-- the reader is 5 in every iteration, and no local is made
 abbrev arguments : Arguments
 arguments = record {
   made = [];
@@ -50,7 +50,7 @@ small = omega arith
 pub one-readers-steps-spec : {M : Type 1} → statement M
 unfolding code.routine
 one-readers-steps-spec 𝓤 H 𝓜 𝓖 𝓡 =
-    turns step-outcome shared shared-stay 𝓤 H 𝓜 𝓖 𝓡 (shared-kept 𝓤 H (𝓖 .A) (givenOf 𝓤 H 𝓜 𝓖) step-outcome) (λ κs x i. shared .val κs x ∷ vint w32 5 ∷ [])
+    iterations step-outcome shared shared-stay 𝓤 H 𝓜 𝓖 𝓡 (shared-kept 𝓤 H (𝓖 .A) (givenOf 𝓤 H 𝓜 𝓖) step-outcome) (λ κs x i. shared .val κs x ∷ vint w32 5 ∷ [])
     code.env #self #callee #sum arguments code.function (code.unfolded 𝓤 H 𝓜 𝓡) refl
     (λ κs x n fits is. record {
       us = λ i. [];

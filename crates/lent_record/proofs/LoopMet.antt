@@ -1,4 +1,4 @@
--- Such a function meets a contract that says nothing of its result: `Turns.antt`'s walk at the signature `(T, S, u32) -> u64`, for any type S of one machine value with one lifetime.
+-- Such a function meets a contract that says nothing of its result: `Loop.antt`'s walk at the signature `(T, S, u32) -> u64`, for any type S of one machine value with one lifetime.
 -- Of a callee's contract only this is used: the callee meets it, and what it requires holds.
 use mathlib.Core.Path.{_≡_, refl, subst}
 use Prim.Native.Nat.{ℕ, _<_, _^_}
@@ -32,7 +32,7 @@ use denote.Triple.Table.{cited, entered}
 use denote.Triple.Walked.{Stay, Stays, stay-dropped, Goes, goes-dropped, walkOf, ends-at, walked, walk-meets}
 use Rattle.in_place.proofs.Outcome.{Outcome, StateT, state-row, answer-row, state-val, answer-val}
 use Rattle.in_place.proofs.Params.{Param}
-use Rattle.lent_record.proofs.Turns.{Arguments, Gives, function, Lent, Back, walk}
+use Rattle.lent_record.proofs.Loop.{Arguments, Gives, function, Lent, Back, walk}
 
 -- a callee that meets a contract whose requirement holds
 pub record Safe {M : Type 1} (𝓤 : URA M) (H : Heap 𝓤) (A : Atoms 𝓤) (T : Ended) (run : Fun 𝓤) : Type 2 where
@@ -64,14 +64,14 @@ module _ (O : Outcome) (p : Param 1) (st : Stay (p .slot) yes) where
   abbrev Slots : Lfts 1 → Type 0
   Slots κs = p .slot .row κs .Denot
 
-  -- what is kept of the slots x and the token between two turns: it is made of what the function is given, and gives what the function owes at its end
+  -- what is kept of the slots x and the token between two iterations: it is made of what the function is given, and gives what the function owes at its end
   pub record Kept {M : Type 1} (𝓤 : URA M) (H : Heap 𝓤) (A : Atoms 𝓤) (κs : Lfts 1) (qs : Shares 1) (x : Slots κs) : Type 2 where
     pub F : SProp 𝓤
     pub begins : ent 𝓤 (sep 𝓤 (toks 𝓤 A 1 κs qs) (sem 𝓤 H A (p .slot .row κs .own x (p .val κs x ∷ [])))) F
     pub ends : ent 𝓤 F (mean 𝓤 H A (some (λ (l : Last (p .slot .row κs .exit yes) x). given (st .fit κs x l) (raw (toks 𝓤 A 1 κs qs) ⊛ ‵ (st .has κs x l (p .val κs x ∷ []))))))
 
   module _ {M : Type 1} (𝓤 : URA M) (H : Heap 𝓤) (A : Atoms 𝓤) (W : Given 𝓤 H A) (kept : (κs : Lfts 1) (qs : Shares 1) (x : Slots κs) → Kept 𝓤 H A κs qs x) (vs : (κs : Lfts 1) → Slots κs → ℕ → List Val) where
-    -- how the arguments are made, and the call in place, in each turn i below n
+    -- how the arguments are made, and the call in place, in each iteration i below n
     abbrev pub Giving : Arguments → Type 2
     Giving g = (κs : Lfts 1) (x : Slots κs) (n : ℕ) → n < 2 ^ 32 → Is (p .slot .row κs) x (p .val κs x ∷ []) → Gives W (p .ty) (p .val κs x) n (vs κs x) g
 
@@ -112,14 +112,14 @@ module _ (O : Outcome) (p : Param 1) (st : Stay (p .slot) yes) where
         (walkOf 𝓤 H A ended stayed c .post (bound c says last κs qs bounds (a .0) (a .1 .0) (a .1 .1 .0) γ)) (exits c says last κs qs bounds (a .0) (a .1 .0) (a .1 .1 .0) γ) (a .0) (are .0) (p .typed 𝓤 H A W κs (a .1 .0) (are .1 .0)))))
 
   -- the function's routine, which stands in an environment under its name, meets the contract where its code is the walk's
-  pub turns : {M : Type 1} (𝓤 : URA M) (H : Heap 𝓤) (𝓜 : Model 𝓤 H) (𝓖 : GhostRules 𝓤 H) (𝓡 : Running 𝓤 H 𝓜) (kept : (κs : Lfts 1) (qs : Shares 1) (x : Slots κs) → Kept 𝓤 H (𝓖 .A) κs qs x) (vs : (κs : Lfts 1) → Slots κs → ℕ → List Val)
+  pub iterations : {M : Type 1} (𝓤 : URA M) (H : Heap 𝓤) (𝓜 : Model 𝓤 H) (𝓖 : GhostRules 𝓤 H) (𝓡 : Running 𝓤 H 𝓜) (kept : (κs : Lfts 1) (qs : Shares 1) (x : Slots κs) → Kept 𝓤 H (𝓖 .A) κs qs x) (vs : (κs : Lfts 1) → Slots κs → ℕ → List Val)
       (env : Env) (#self #callee #sum : Name) (g : Arguments) (code : Fn) → Closed 𝓤 H (tables 𝓤 H 𝓜 𝓡 env .C) (tables 𝓤 H 𝓜 𝓡 env .Λ) #self code → code ≡ function O #callee #sum (p .ty) g
       → Giving 𝓤 H (𝓖 .A) (givenOf 𝓤 H 𝓜 𝓖) kept vs g → Calls 𝓤 H (𝓖 .A) (givenOf 𝓤 H 𝓜 𝓖) kept vs (𝓡 .run (env #callee)) → Safe 𝓤 H (𝓖 .A) (sum-ended O) (𝓡 .run (env #sum)) → Goes 𝓤 H (𝓖 .A) (givenOf 𝓤 H 𝓜 𝓖) 1 (p .slot) yes st
       → (c : Clauses 𝓤 ended) → ((κs : Lfts 1) (a : Args (ended .signature) κs) (γ : c κs a .ghost) (r : ℕ) (e : AtExit ended κs) → ent 𝓤 (emp 𝓤) (c κs a .ensures γ r e))
       → (last : (h : StateT O) → Last (state-row O .exit yes) h) → ((h : StateT O) (l : Last (state-row O .exit yes) h) → left (state-row O .exit yes) h l ≡ ftrue)
       → Meets 𝓤 H (𝓖 .A) (ended .signature) (𝓡 .run (env #self)) (closing 𝓤 H (𝓖 .A) ended c)
   unfolding tablesOf
-  turns 𝓤 H 𝓜 𝓖 𝓡 kept vs env #self #callee #sum g code closed is giving calls sum goes c says last silent =
+  iterations 𝓤 H 𝓜 𝓖 𝓡 kept vs env #self #callee #sum g code closed is giving calls sum goes c says last silent =
       entered 𝓤 H (tripleOf 𝓤 H (𝓖 .A) (ended .signature) (closing 𝓤 H (𝓖 .A) ended c)) (tables 𝓤 H 𝓜 𝓡 env .C) (tables 𝓤 H 𝓜 𝓡 env .Λ) #self (function O #callee #sum (p .ty) g)
       (subst (λ (k : Fn). Closed 𝓤 H (tables 𝓤 H 𝓜 𝓡 env .C) (tables 𝓤 H 𝓜 𝓡 env .Λ) #self k) is closed)
       (meets 𝓤 H (𝓖 .A) (givenOf 𝓤 H 𝓜 𝓖) kept vs (tablesOf 𝓤 H 𝓜 (tables 𝓤 H 𝓜 𝓡 env)) #callee #sum g giving calls sum goes c says last silent)

@@ -26,8 +26,8 @@ use denote.Triple.Statement.{FmF}
 use denote.Triple.Walked.{Stay, stay-dropped, Goes, goes-dropped}
 use Rattle.in_place.proofs.Outcome.{Outcome, StateT, AnswerT, state-row, answer-row}
 use Rattle.in_place.proofs.Params.{Param, slots, passed, args, slice}
-use Rattle.lent_record.proofs.Turns.{Lent, Back}
-use Rattle.lent_record.proofs.TurnsMet.{Safe, Kept, Calls}
+use Rattle.lent_record.proofs.Loop.{Lent, Back}
+use Rattle.lent_record.proofs.LoopMet.{Safe, Kept, Calls}
 
 abbrev pub shared : Param 1
 shared = slice w64 0 tt

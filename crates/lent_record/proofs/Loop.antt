@@ -1,7 +1,7 @@
 -- The walk of every function
---     fn f(panel: T, slots: S, turns: u32) -> u64 { let mut kept = panel; let mut sum = 0; let mut i = 0; while i < turns { let answer = g(&mut kept, ..); sum = with(sum, answer); i = i + 1; } sum }
+--     fn f(panel: T, slots: S, count: u32) -> u64 { let mut kept = panel; let mut sum = 0; let mut i = 0; while i < count { let answer = g(&mut kept, ..); sum = with(sum, answer); i = i + 1; } sum }
 -- It is safe, and ends, where g and `with` are safe: nothing is said of the sum. One walk serves any T, any S, any answer and any arguments behind the reference, which may depend on i.
--- What is kept of the slots between two turns, and the lifetimes' tokens, are one assertion F, which the call in place is given and gives back.
+-- What is kept of the slots between two iterations, and the lifetimes' tokens, are one assertion F, which the call in place is given and gives back.
 use mathlib.Core.Path.{_≡_, refl, ap, subst}
 use Prim.Native.Nat.{ℕ, _+_, _-_, _<_, _^_}
 use native.Mathlib.Omega.{arith}
@@ -37,7 +37,7 @@ use Rattle.in_place.proofs.Locals.{locals, Blocks, env, rooms, cells, allocate}
 use Rattle.in_place.proofs.Outcome.{Outcome, StateT, AnswerT, state-row, answer-row, state-ty, answer-ty, state-val, answer-val, state-typed}
 use Rattle.lent_record.proofs.LentLocal.{lends-local, comes-home}
 
--- ---- locals of any types that are rooms again after a turn, and are freed at the end
+-- ---- locals of any types that are rooms again after an iteration, and are freed at the end
 module _ {M : Type 1} {𝓤 : URA M} {H : Heap 𝓤} {A : Atoms 𝓤} {K : Type 0} {W : Given 𝓤 H A} where
   empty : {Γ : List (Item 𝓤)} → K → (τs : List Ty) (bs : Blocks τs) (vs : List Val) → Typed τs vs → {G : Goal 𝓤 H} → Step K W (‵ (rooms τs bs) ∷ Γ) G (‵ (cells τs bs vs) ∷ Γ) G
   empty t [] bs [] ok = step (λ s. s)
@@ -65,7 +65,7 @@ sum-ty = tyInt w64
 abbrev environment : (τ : Ty) (made : List Ty) (b₂ b₆ : ℕ) → Blocks made → (e₀ e₁ e₃ e₄ e₅ e₇ e₈ e₉ : Ty × ℕ) → List (Ty × ℕ)
 environment τ made b₂ b₆ ms e₀ e₁ e₃ e₄ e₅ e₇ e₈ e₉ = e₀ ∷ e₁ ∷ (τ, b₂) ∷ e₃ ∷ e₄ ∷ e₅ ∷ (number, b₆) ∷ e₇ ∷ e₈ ∷ e₉ ∷ (env made ms ++ [])
 
--- in a turn i below n those statements fill the locals made with us i, and the operands are vs i
+-- in an iteration i below n those statements fill the locals made with us i, and the operands are vs i
 pub record Gives {M : Type 1} {𝓤 : URA M} {H : Heap 𝓤} {A : Atoms 𝓤} (W : Given 𝓤 H A) (τ : Ty) (v : Val) (n : ℕ) (vs : ℕ → List Val) (g : Arguments) : Type 2 where
   pub us : ℕ → List Val
   pub typed : (i : ℕ) → i < n → Typed (g .made) (us i)
@@ -83,8 +83,8 @@ module _ (O : Outcome) where
   lentTy = tyRef erased mut (pointee (R .written))
 
   -- ---- the MIR
-  abbrev turn-of : Name → Name → Arguments → Body
-  turn-of #callee #sum g = seq (assign (place 8 []) (op2 (lt unsigned) (copy (place 6 [])) (copy (place 3 []))))
+  abbrev iteration-of : Name → Name → Arguments → Body
+  iteration-of #callee #sum g = seq (assign (place 8 []) (op2 (lt unsigned) (copy (place 6 [])) (copy (place 3 []))))
       (seq (cond (copy (place 8 [])) skip (exit 1))
       (seq (assign (place 9 []) (addrOf (place 4 [])))
       (g .before (seq (call #callee (copy (place 9 []) ∷ g .operands) (place 7 []))
@@ -103,11 +103,11 @@ module _ (O : Outcome) where
     body = seq (assign (place 4 []) (rvOpd (copy (place 1 []))))
         (seq (assign (place 5 []) (rvOpd (int w64 0)))
         (seq (assign (place 6 []) (rvOpd (int w32 0)))
-        (seq (block (loop (turn-of #callee #sum g))) rest)));
+        (seq (block (loop (iteration-of #callee #sum g))) rest)));
   }
 
-  -- where a turn begins: i, the sum, and the state
-  record Turn : Type 0 where
+  -- where an iteration begins: i, the sum, and the state
+  record Iteration : Type 0 where
     i : ℕ
     s : ℕ
     h : StateT O
@@ -133,11 +133,11 @@ module _ (O : Outcome) where
         (met : (ν b : ℕ) (γ : GName) (h : StateT O) (i : ℕ) → i < n → ent 𝓤 (mean 𝓤 H A (Lent ν b γ h)) (H .⇛ (𝓣 .C #callee (vptr b 0 ∷ vs i) (λ u. mean 𝓤 H A (Back ν γ u)))))
         (more : ℕ → AnswerT O → ℕ → SProp 𝓤) (adds : (s : ℕ) (w : AnswerT O) → ent 𝓤 (mean 𝓤 H A (Summing s w)) (𝓣 .C #sum (vint w64 s ∷ answer-val O w ∷ []) (λ u. mean 𝓤 H A (Summed (more s w) u))))
         (Q : Val → SProp 𝓤) (ends : (s : ℕ) → s < 2 ^ 64 → ent 𝓤 F (Q (vint w64 s))) where
-      abbrev Nearer : Turn → Turn → Type 0
+      abbrev Nearer : Iteration → Iteration → Type 0
       Nearer t′ t = n - t′ .i < n - t .i
 
       Nearer-wf : WellFounded Nearer
-      Nearer-wf = InvImage·wf (λ (t : Turn). n - t .i) (Nat·lt-wfRel .wf)
+      Nearer-wf = InvImage·wf (λ (t : Iteration). n - t .i) (Nat·lt-wfRel .wf)
 
       fits-next : (i : ℕ) → i < n → i + 1 < 2 ^ 32
       fits-next i less = omega (n-fits, less, arith)
@@ -155,17 +155,17 @@ module _ (O : Outcome) where
         abbrev En : Env 𝓤 H
         En = environment τ (g .made) l₂ l₆ ms (sum-ty, l₀) (state-ty O, l₁) (number, l₃) (state-ty O, l₄) (sum-ty, l₅) (answer-ty O, l₇) (tyBool, l₈) (lentTy, l₉)
 
-        -- [kept; i; slots; the locals made; sum; answer; the test; the reference at 7; turns; panel; the result; F at 11; and that each local dies, from 12 on]
-        abbrev At : Turn → List (Item 𝓤)
+        -- [kept; i; slots; the locals made; sum; answer; the test; the reference at 7; count; panel; the result; F at 11; and that each local dies, from 12 on]
+        abbrev At : Iteration → List (Item 𝓤)
         At t = ‵ (fat fullShare (state-ty O) l₄ 0 (state-val O (t .h))) ∷ ‵ (fat fullShare number l₆ 0 (vint w32 (t .i))) ∷ ‵ (fat fullShare τ l₂ 0 v) ∷ ‵ (rooms (g .made) ms) ∷ ‵ (fat fullShare sum-ty l₅ 0 (vint w64 (t .s)))
             ∷ ‵ (froom (answer-ty O) l₇ 0) ∷ ‵ (froom tyBool l₈ 0) ∷ ‵ (froom lentTy l₉ 0) ∷ ‵ (fat fullShare number l₃ 0 (vint w32 n)) ∷ ‵ (fat fullShare (state-ty O) l₁ 0 (state-val O h₀)) ∷ ‵ (froom sum-ty l₀ 0) ∷ raw F
             ∷ ‵ (fdies sum-ty l₀) ∷ ‵ (fdies (state-ty O) l₁) ∷ ‵ (fdies τ l₂) ∷ ‵ (fdies number l₃) ∷ ‵ (fdies (state-ty O) l₄) ∷ ‵ (fdies sum-ty l₅) ∷ ‵ (fdies number l₆) ∷ ‵ (fdies (answer-ty O) l₇) ∷ ‵ (fdies tyBool l₈) ∷ ‵ (fdies lentTy l₉) ∷ []
 
-        abbrev Turned : Turn → Out → SProp 𝓤
-        Turned t = afterTurn 𝓤 H (Below 𝓤 H A Nearer At t) (afterBlock 𝓤 H (afterSeq 𝓤 H (Wp 𝓤 H (𝓣 .C) (𝓣 .Λ) En rest (atReturn 𝓤 H En Q)) (atReturn 𝓤 H En Q)))
+        abbrev Iterated : Iteration → Out → SProp 𝓤
+        Iterated t = afterTurn 𝓤 H (Below 𝓤 H A Nearer At t) (afterBlock 𝓤 H (afterSeq 𝓤 H (Wp 𝓤 H (𝓣 .C) (𝓣 .Λ) En rest (atReturn 𝓤 H En Q)) (atReturn 𝓤 H En Q)))
 
-        -- a turn that makes its calls
-        takes : (t : Turn) → ltb (t .i) n ≡ true → Sq W (At t) (runs (𝓣 .C) (𝓣 .Λ) En (turn-of #callee #sum g) (anyQ (Turned t)))
+        -- an iteration that makes its calls
+        takes : (t : Iteration) → ltb (t .i) n ≡ true → Sq W (At t) (runs (𝓣 .C) (𝓣 .Λ) En (iteration-of #callee #sum g) (anyQ (Iterated t)))
         unfolding afterTurn
         takes t test =
             assigns ! (bin ! (load ! (from ! (stop !)) (look ! 1 refl)) (load ! (from ! (stop !)) (look ! 8 refl)) tt) (from ! (stop !)) (init ! 6 refl (tt, tt)) $
@@ -174,7 +174,7 @@ module _ (O : Outcome) where
             move ! (1 ∷ 2 ∷ 3 ∷ []) $ gives .runs-before (t .i) less _ (𝓣 .C) (𝓣 .Λ) l₂ l₆ ms _ _ _ _ _ _ _ _ _ _ $
             -- [i; slots; the locals made; kept at 3; sum; answer; the test; the reference at 7; …]: the state is lent for a lifetime ν of the call
             lft-new ! tt (λ ν. move ! (4 ∷ []) $ use1 W (later (some (λ (γ : GName). ‵ (MutRef (named 0) (ν ∷ []) R .own (record { ptr = (l₄, 0); name = γ; now = t .h }) (vptr l₄ 0 ∷ [])) ⊛ ‵ (flent (ν ∷ []) (Borrowed (mem R) l₄ 0 γ))))) (lends-local (O .states .type) (O .states .laws) (O .states .plain) 𝓤 H A W (named 0) (ν ∷ []) l₄ (t .h) (t .is)) $ await ! tt $ pick ! (λ γ. split ! $
-            -- [what the reference owns; the lender's part; the token; i at 3; slots; the locals made; sum; answer; the test; the reference at 9; turns; panel; the result; F at 13; …]
+            -- [what the reference owns; the lender's part; the token; i at 3; slots; the locals made; sum; answer; the test; the reference at 9; count; panel; the result; F at 13; …]
             move ! (2 ∷ 0 ∷ []) $ join ! $ move ! (0 ∷ 12 ∷ []) $ join ! $ use1 W (later (raw (𝓣 .C #callee (vptr l₄ 0 ∷ vs (t .i)) (λ u. mean 𝓤 H A (Back ν γ u))))) (met ν l₄ γ (t .h) (t .i) less) $ await ! tt $ move ! (0 ∷ 2 ∷ 3 ∷ 4 ∷ []) $
             -- [the call; i; slots; the locals made; the lender's part at 4; sum; answer; the test; the reference at 8; …]
             calls-from ! (fmOf 𝓤 H (W .laws) 𝓣) (raw (𝓣 .C #callee (vptr l₄ 0 ∷ vs (t .i)) (λ u. mean 𝓤 H A (Back ν γ u)))) (vptr l₄ 0 ∷ vs (t .i)) (λ u. mean 𝓤 H A (Back ν γ u)) (id⊢ 𝓤 _) (and-then ! (load ! (from ! (stop !)) (look ! 8 refl)) (gives .read (t .i) _ _ l₂ l₆ ms _ _ _ _ _ _ _ _)) (λ u.
@@ -189,7 +189,7 @@ module _ (O : Outcome) where
             nothing ! $ nothing ! $ owned ! (answer-row O) (Is (answer-row O)) (EL.makes (O .answers .type) (O .answers .plain) 𝓤 H A) w _ (told w is-u) $ fjoin ! $ owned ! u64 (Is u64) (uint-makes 𝓤 H A W w64) (t .s) _ (refl, t .fits) $ fjoin ! $ nothing ! $ join ! $ join ! $
             calls-from ! (fmOf 𝓤 H (W .laws) 𝓣) (Summing (t .s) w) (vint w64 (t .s) ∷ answer-val O w ∷ []) (λ x. mean 𝓤 H A (Summed (more (t .s) w) x)) (adds (t .s) w) (and-then ! (load ! (from ! (stop !)) (look ! 6 refl)) (and-then ! (load ! (from ! (stop !)) (look ! 7 refl)) (no-more !))) (λ x.
             use1 W (Summed (more (t .s) w) x) (id⊢ 𝓤 _) $ await ! tt $ pick ! (λ s. split ! $ split ! $ drop ! $ move ! (1 ∷ []) $ drop ! $ peeks ! u64 (Is u64) (shows 𝓤 H A u64) s (x ∷ []) (λ is-s. drop ! $
-            -- [kept; F; i at 2; slots; the locals made at 4; sum; answer; the test; the reference; turns; …]
+            -- [kept; F; i at 2; slots; the locals made at 4; sum; answer; the test; the reference; count; …]
             land ! (from ! (stop !)) (store ! 5 refl (uint-lawful 𝓤 H A W w64 .typed s _ is-s .0)) $ rewrite ! 5 (λ (y : Val). ‵ (fat fullShare sum-ty l₅ 0 y)) (ap only (uint-tells w64 s _ is-s)) refl $
             assigns-last ! (bin ! (load ! (from ! (stop !)) (look ! 2 refl)) (lit ! tt) (record { fits = fits-next (t .i) less })) (from ! (stop !)) (store ! 2 refl (tt, record { fits = fits-next (t .i) less })) $
             forget ! 6 refl $ forget ! 7 refl $ forget ! 8 refl $ move ! (4 ∷ []) $ empty ! (g .made) ms (gives .us (t .i)) (gives .typed (t .i) less) $
@@ -198,8 +198,8 @@ module _ (O : Outcome) where
             less : t .i < n
             less = ltb-true (t .i) n test
 
-        -- the turn that leaves the loop, and the rest of the body
-        leaves : (t : Turn) → ltb (t .i) n ≡ false → Sq W (At t) (runs (𝓣 .C) (𝓣 .Λ) En (turn-of #callee #sum g) (anyQ (Turned t)))
+        -- the iteration that leaves the loop, and the rest of the body
+        leaves : (t : Iteration) → ltb (t .i) n ≡ false → Sq W (At t) (runs (𝓣 .C) (𝓣 .Λ) En (iteration-of #callee #sum g) (anyQ (Iterated t)))
         unfolding afterTurn
         leaves t test =
             assigns ! (bin ! (load ! (from ! (stop !)) (look ! 1 refl)) (load ! (from ! (stop !)) (look ! 8 refl)) tt) (from ! (stop !)) (init ! 6 refl (tt, tt)) $
@@ -210,12 +210,12 @@ module _ (O : Outcome) where
             move ! (2 ∷ 7 ∷ []) $ free1 ! $ move ! (0 ∷ 6 ∷ []) $ free1 ! $ move ! (1 ∷ 5 ∷ []) $ free1 ! $ move ! (1 ∷ 4 ∷ []) $ free1 ! $ move ! (1 ∷ 3 ∷ []) $ free1 ! $
             free-rooms ! (g .made) ms [] $ free0 ! $ by ! (ends (t .s) (t .fits))
 
-        turn : (t : Turn) (y : Bool) → ltb (t .i) n ≡ y → Sq W (At t) (runs (𝓣 .C) (𝓣 .Λ) En (turn-of #callee #sum g) (anyQ (Turned t)))
-        turn t true test = takes t test
-        turn t false test = leaves t test
+        iteration : (t : Iteration) (y : Bool) → ltb (t .i) n ≡ y → Sq W (At t) (runs (𝓣 .C) (𝓣 .Λ) En (iteration-of #callee #sum g) (anyQ (Iterated t)))
+        iteration t true test = takes t test
+        iteration t false test = leaves t test
 
-        looped : (t : Turn) → Sq W (At t) (runs (𝓣 .C) (𝓣 .Λ) En (seq (block (loop (turn-of #callee #sum g))) rest) (atRet En Q))
-        looped t = first ! $ blocks ! $ loops ! 𝓣 Nearer Nearer-wf At (λ t′. turn t′ (ltb (t′ .i) n) refl) t
+        looped : (t : Iteration) → Sq W (At t) (runs (𝓣 .C) (𝓣 .Λ) En (seq (block (loop (iteration-of #callee #sum g))) rest) (atRet En Q))
+        looped t = first ! $ blocks ! $ loops ! 𝓣 Nearer Nearer-wf At (λ t′. iteration t′ (ltb (t′ .i) n) refl) t
 
       pub walk : (h : StateT O) → Is R h (state-val O h ∷ []) → Typed (τ ∷ []) (v ∷ []) → ent 𝓤 F (WpFn 𝓤 H (𝓣 .C) (𝓣 .Λ) (function #callee #sum τ g) (state-val O h ∷ v ∷ vint w32 n ∷ []) Q)
       walk h is ok =

@@ -37,8 +37,8 @@ use Rattle.in_place.proofs.Locals.{at-entry, in-tail}
 use Rattle.in_place.proofs.Outcome.{Outcome, StateT, AnswerT, state-row, answer-row}
 use Rattle.in_place.proofs.Params.{Param, slice-mut}
 use Rattle.lent_record.proofs.Again.{LentAgain, lends-again, comes-back}
-use Rattle.lent_record.proofs.Turns.{Arguments, function, Lent, Back}
-use Rattle.lent_record.proofs.TurnsMet.{Safe, Kept, Giving, Calls, ended, sum-ended, turns}
+use Rattle.lent_record.proofs.Loop.{Arguments, function, Lent, Back}
+use Rattle.lent_record.proofs.LoopMet.{Safe, Kept, Giving, Calls, ended, sum-ended, iterations}
 
 abbrev pub lent : Param 1
 lent = slice-mut w64 0 tt
@@ -151,11 +151,11 @@ module _ {M : Type 1} (𝓤 : URA M) (H : Heap 𝓤) (A : Atoms 𝓤) (W : Given
   }
 
 -- a function whose code is the walk's, with a call in place over the slots, is safe and ends where the two that it calls are safe
-pub lent-turns : (O : Outcome) {M : Type 1} (𝓤 : URA M) (H : Heap 𝓤) (𝓜 : Model 𝓤 H) (𝓖 : GhostRules 𝓤 H) (𝓡 : Running 𝓤 H 𝓜) (env : Env) (#self #callee #sum : Name) (code : Fn) → Closed 𝓤 H (tables 𝓤 H 𝓜 𝓡 env .C) (tables 𝓤 H 𝓜 𝓡 env .Λ) #self code
+pub lent-iterations : (O : Outcome) {M : Type 1} (𝓤 : URA M) (H : Heap 𝓤) (𝓜 : Model 𝓤 H) (𝓖 : GhostRules 𝓤 H) (𝓡 : Running 𝓤 H 𝓜) (env : Env) (#self #callee #sum : Name) (code : Fn) → Closed 𝓤 H (tables 𝓤 H 𝓜 𝓡 env .C) (tables 𝓤 H 𝓜 𝓡 env .Λ) #self code
     → code ≡ function O #callee #sum (lent .ty) relending → Safe 𝓤 H (𝓖 .A) (lent-callee O) (𝓡 .run (env #callee)) → Safe 𝓤 H (𝓖 .A) (sum-ended O) (𝓡 .run (env #sum))
     → (c : Clauses 𝓤 (ended O lent lent-stay)) → ((κs : Lfts 1) (a : Args (ended O lent lent-stay .signature) κs) (γ : c κs a .ghost) (r : ℕ) (e : AtExit (ended O lent lent-stay) κs) → ent 𝓤 (emp 𝓤) (c κs a .ensures γ r e))
     → (last : (h : StateT O) → Last (state-row O .exit yes) h) → ((h : StateT O) (l : Last (state-row O .exit yes) h) → left (state-row O .exit yes) h l ≡ ftrue)
     → Meets 𝓤 H (𝓖 .A) (ended O lent lent-stay .signature) (𝓡 .run (env #self)) (closing 𝓤 H (𝓖 .A) (ended O lent lent-stay) c)
-lent-turns O 𝓤 H 𝓜 𝓖 𝓡 env #self #callee #sum code closed is callee sum c says last silent =
-    turns O lent lent-stay 𝓤 H 𝓜 𝓖 𝓡 (lent-kept 𝓤 H (𝓖 .A) (givenOf 𝓤 H 𝓜 𝓖) O) (λ κs x i. lent .val κs x ∷ []) env #self #callee #sum relending code closed is (relends 𝓤 H (𝓖 .A) (givenOf 𝓤 H 𝓜 𝓖) O)
+lent-iterations O 𝓤 H 𝓜 𝓖 𝓡 env #self #callee #sum code closed is callee sum c says last silent =
+    iterations O lent lent-stay 𝓤 H 𝓜 𝓖 𝓡 (lent-kept 𝓤 H (𝓖 .A) (givenOf 𝓤 H 𝓜 𝓖) O) (λ κs x i. lent .val κs x ∷ []) env #self #callee #sum relending code closed is (relends 𝓤 H (𝓖 .A) (givenOf 𝓤 H 𝓜 𝓖) O)
     (lent-calls 𝓤 H (𝓖 .A) (givenOf 𝓤 H 𝓜 𝓖) O (𝓡 .run (env #callee)) (run-framed 𝓤 H 𝓜 𝓡 (env #callee)) callee) sum (lent-goes 𝓤 H (𝓖 .A) (givenOf 𝓤 H 𝓜 𝓖)) c says last silent

@@ -1,11 +1,9 @@
 // The calls of a run, which take and give the record by value.
 use crate::sums::with_start;
 use crate::sums::with_step;
-use crate::sums::with_turn;
 use lent_record::start_lookup;
 use lent_record::step_reader;
 use lent_record::step_writer;
-use lent_record::turn;
 use record::Record;
 
 // The steps of all readers, one after the other.
@@ -55,19 +53,6 @@ pub(crate) fn one_readers_steps(panel: Record, slots: &[u64], count: u32) -> u64
         let answer = after.answer;
         kept = after.panel;
         sum = with_step(sum, answer);
-    }
-    sum
-}
-
-// Turns of the dispatcher.
-pub(crate) fn dispatched(panel: Record, slots: &mut [u64], count: u32) -> u64 {
-    let mut kept = panel;
-    let mut sum = 0;
-    for i in 0..count {
-        let after = turn(kept, slots);
-        let answer = after.answer;
-        kept = after.panel;
-        sum = with_turn(sum, answer);
     }
     sum
 }

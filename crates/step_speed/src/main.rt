@@ -1,7 +1,8 @@
 // Single calls at work, for a benchmark from outside. Each line of standard input, of at most 24, asks for some:
 // R readers' steps, all readers at work; W the writer's steps; L starts of lookups; T turns, all parties at work;
-// O turns, one reader at work; S that reader's steps. V by value or P in place; S 16 or L 4096 slots; and a digit,
-// for 10 to that power runs. Prints for each line the calls made and a sum of what they answered.
+// O turns, one reader at work; S that reader's steps. V by value or P in place, which turns always are; S 16 or L
+// 4096 slots; and a digit, for 10 to that power runs. Prints for each line the calls made and a sum of what they
+// answered.
 mod by_value;
 mod lending;
 mod panels;

@@ -21,8 +21,8 @@ pub(crate) fn made(letter: u8, way: Way, m: u32, slots: &mut [u64], times: u32) 
     match letter {
         b'W' => writer_runs(way, m, slots, times),
         b'L' => lookup_runs(way, m, slots, times),
-        b'T' => turn_runs(way, all_at_work(m, slots), slots, 153, times),
-        b'O' => turn_runs(way, one_at_work(m, slots), slots, 16, times),
+        b'T' => turn_runs(all_at_work(m, slots), slots, 153, times),
+        b'O' => turn_runs(one_at_work(m, slots), slots, 16, times),
         b'S' => one_readers_runs(way, m, slots, times),
         _ => reader_runs(way, m, slots, times),
     }
@@ -125,19 +125,12 @@ fn writer_run(way: Way, panel: Record, slots: &mut [u64], count: u32) -> u64 {
 }
 
 // So many turns, none of which is refused; whoever is at work at first is so until the last round of the circle.
-fn turn_runs(way: Way, panel: Record, slots: &mut [u64], count: u32, times: u32) -> Tally {
+fn turn_runs(panel: Record, slots: &mut [u64], count: u32, times: u32) -> Tally {
     let mut tally = Tally { calls: 0, sum: 0 };
     for run in 0..times {
-        tally = counted(tally, count, turn_run(way, panel, slots, count));
+        tally = counted(tally, count, lending::dispatched(panel, slots, count));
     }
     tally
-}
-
-fn turn_run(way: Way, panel: Record, slots: &mut [u64], count: u32) -> u64 {
-    match way {
-        Way::ByValue => by_value::dispatched(panel, slots, count),
-        Way::InPlace => lending::dispatched(panel, slots, count),
-    }
 }
 
 fn one_readers_runs(way: Way, m: u32, slots: &[u64], times: u32) -> Tally {

@@ -18,56 +18,71 @@ const RUST: &str = "target/host/expected_step_speed";
 const LOG: &str = "target/host/callgrind.log";
 const ROUNDS: usize = 7;
 
-/// A kind of call, the letter that asks for it, and powers of ten: of the runs that are timed, and of
-/// the shorter of the two runs whose instructions are counted.
+/// A letter and what it stands for.
+type Way = (char, &'static str);
+
+/// A kind of call, the letter that asks for it, the ways in which it is made, and powers of ten: of the
+/// runs that are timed, and of the shorter of the two runs whose instructions are counted.
 struct Kind {
     name: &'static str,
     letter: char,
+    ways: &'static [Way],
     timed: u32,
     counted: u32,
 }
+
+const BOTH_WAYS: &[Way] = &[('V', "by value"), ('P', "in place")];
+
+/// For turns. Were they made by value too, the compiler would build a turn into neither loop; a main
+/// loop has one call of it.
+const IN_PLACE: &[Way] = &[('P', "in place")];
 
 const KINDS: [Kind; 6] = [
     Kind {
         name: "reader's step",
         letter: 'R',
+        ways: BOTH_WAYS,
         timed: 5,
         counted: 0,
     },
     Kind {
         name: "writer's step",
         letter: 'W',
+        ways: BOTH_WAYS,
         timed: 5,
         counted: 0,
     },
     Kind {
         name: "start of a lookup",
         letter: 'L',
+        ways: BOTH_WAYS,
         timed: 6,
         counted: 1,
     },
     Kind {
         name: "turn, all 17 at work",
         letter: 'T',
+        ways: IN_PLACE,
         timed: 5,
         counted: 0,
     },
     Kind {
         name: "turn, one at work",
         letter: 'O',
+        ways: IN_PLACE,
         timed: 6,
         counted: 1,
     },
     Kind {
         name: "step, one at work",
         letter: 'S',
+        ways: BOTH_WAYS,
         timed: 6,
         counted: 1,
     },
 ];
 
 const SIZES: [(char, u32); 2] = [('S', 16), ('L', 4096)];
-const WAYS: [(char, &str); 2] = [('V', "by value"), ('P', "in place")];
 
 /// The letters of a turn and of the step that it is beside, and who is at work.
 const TURNS_AND_STEPS: [(char, char, &str); 2] = [
@@ -158,7 +173,7 @@ fn has_valgrind() -> bool {
 fn row(
     kind: &Kind,
     (size_letter, m): (char, u32),
-    (way_letter, way_name): (char, &str),
+    (way_letter, way_name): Way,
     counting: bool,
     seconds: &mut Seconds,
 ) -> Result<String, String> {
@@ -209,8 +224,8 @@ fn bench() -> Result<(), String> {
     println!("|---|---:|---|---:|---:|---:|");
     for kind in &KINDS {
         for size in SIZES {
-            for way in WAYS {
-                println!("{}", row(kind, size, way, counting, &mut seconds)?);
+            for way in kind.ways {
+                println!("{}", row(kind, size, *way, counting, &mut seconds)?);
             }
         }
     }

@@ -7,16 +7,16 @@ use Rattle.step_speed.proofs.runs.turn_runs.Statement.{statement}
 use Rattle.step_speed.proofs.runs.turn_runs.Tie as tie
 
 abbrev Inv-loop : tie.InvT-loop
-Inv-loop way panel slots₀ count times tally₀ run₀ slots tally run = (run ≤ times) × (length slots ≡ length slots₀)
+Inv-loop panel slots₀ count times tally₀ run₀ slots tally run = (run ≤ times) × (length slots ≡ length slots₀)
 
 abbrev μ-loop : tie.MeasureT-loop
-μ-loop way panel slots₀ count times tally₀ run₀ slots tally run = times - run
+μ-loop panel slots₀ count times tally₀ run₀ slots tally run = times - run
 
 loop-holds : tie.Need-loop-holds Inv-loop μ-loop
 loop-holds c = search needs
 
-turn-run-requires : tie.Need-turn-run-requires Inv-loop μ-loop
-turn-run-requires c κs = search needs
+dispatched-requires : tie.Need-dispatched-requires Inv-loop μ-loop
+dispatched-requires c κs = search needs
 
 counted-requires : tie.Need-counted-requires Inv-loop μ-loop
 counted-requires c κs = search needs
@@ -43,7 +43,7 @@ turn-runs-spec =
     Inv-loop
     μ-loop
     loop-holds
-    turn-run-requires
+    dispatched-requires
     counted-requires
     add-run
     loop-less

@@ -8,7 +8,6 @@ mod child_program;
 #[path = "../timing.rs"]
 mod timing;
 
-use std::collections::HashMap;
 use std::fs::read_to_string;
 use std::process::{Command, ExitCode, Stdio};
 use timing::timed;
@@ -84,14 +83,12 @@ const KINDS: [Kind; 6] = [
 
 const SIZES: [(char, u32); 2] = [('S', 16), ('L', 4096)];
 
-/// The letters of a turn and of the step that it is beside, and who is at work.
-const TURNS_AND_STEPS: [(char, char, &str); 2] = [
-    ('T', 'R', "all 17 beside all 16 readers"),
-    ('O', 'S', "one reader"),
+/// The letters of a turn and of the step that it is beside, the power of ten of their runs, and who is at
+/// work.
+const TURNS_AND_STEPS: [(char, char, u32, &str); 2] = [
+    ('T', 'R', 5, "all 17 beside all 16 readers"),
+    ('O', 'S', 6, "one reader"),
 ];
-
-/// Seconds that the proved program took for one call, by the line's letters.
-type Seconds = HashMap<String, f64>;
 
 /// The calls of a line, and the best times of the two programs in seconds.
 struct Times {
@@ -169,22 +166,19 @@ fn has_valgrind() -> bool {
     run.is_ok_and(|status| status.success())
 }
 
-/// One row of the table, the time of its call noted.
+/// One row of the table.
 fn row(
     kind: &Kind,
     (size_letter, m): (char, u32),
     (way_letter, way_name): Way,
     counting: bool,
-    seconds: &mut Seconds,
 ) -> Result<String, String> {
-    let letters = format!("{}{way_letter}{size_letter}", kind.letter);
-    let line = |digit: u32| format!("{letters}{digit}\n");
+    let line = |digit: u32| format!("{}{way_letter}{size_letter}{digit}\n", kind.letter);
     let Times {
         calls,
         proved,
         rust,
     } = times(&line(kind.timed))?;
-    seconds.insert(letters.clone(), proved / calls);
     let counts = if counting {
         let (short, long) = (line(kind.counted), line(kind.counted + 1));
         let of_proved = per_call(PROVED, &short, &long)?;
@@ -201,23 +195,41 @@ fn row(
     ))
 }
 
-/// A turn's time over a step's, of the proved program in place.
-fn print_turns_beside_steps(seconds: &Seconds) {
+/// Seconds that the proved program takes for a call of a line.
+fn seconds_a_call(line: &str) -> Result<f64, String> {
+    let (printed, seconds) = timed(|| printed(PROVED, line));
+    Ok(seconds / calls(&printed?)?)
+}
+
+/// A turn's time over a step's: both lines are run in each round, and the best of each counts.
+fn turn_beside_step(turn: &str, step: &str) -> Result<f64, String> {
+    let (mut of_turn, mut of_step) = (f64::INFINITY, f64::INFINITY);
+    for _ in 0..ROUNDS {
+        of_turn = seconds_a_call(turn)?.min(of_turn);
+        of_step = seconds_a_call(step)?.min(of_step);
+    }
+    Ok(of_turn / of_step)
+}
+
+/// The ratios of the proved program, in place.
+fn print_turns_beside_steps() -> Result<(), String> {
     let titles = SIZES.map(|(_, m)| format!(" {m} slots |")).concat();
     println!("| turn / step, in place |{titles}");
     println!("|---|---:|---:|");
-    for (turn, step, at_work) in TURNS_AND_STEPS {
-        let ratios = SIZES.map(|(size, _)| {
-            let of = |letter| seconds[&format!("{letter}P{size}")];
-            format!(" {:.2} |", of(turn) / of(step))
-        });
-        println!("| {at_work} |{}", ratios.concat());
+    for (turn, step, power, at_work) in TURNS_AND_STEPS {
+        let mut row = format!("| {at_work} |");
+        for (size, _) in SIZES {
+            let line = |letter: char| format!("{letter}P{size}{power}\n");
+            let ratio = turn_beside_step(&line(turn), &line(step))?;
+            row.push_str(&format!(" {ratio:.2} |"));
+        }
+        println!("{row}");
     }
+    Ok(())
 }
 
 fn bench() -> Result<(), String> {
     let counting = has_valgrind();
-    let mut seconds = Seconds::new();
     println!("single calls, best of {ROUNDS} rounds:");
     println!();
     println!("| call | slots | way | / step machine | instructions a call, proved / Rust | million calls/s |");
@@ -225,13 +237,12 @@ fn bench() -> Result<(), String> {
     for kind in &KINDS {
         for size in SIZES {
             for way in kind.ways {
-                println!("{}", row(kind, size, *way, counting, &mut seconds)?);
+                println!("{}", row(kind, size, *way, counting)?);
             }
         }
     }
     println!();
-    print_turns_beside_steps(&seconds);
-    Ok(())
+    print_turns_beside_steps()
 }
 
 fn main() -> ExitCode {

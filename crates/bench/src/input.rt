@@ -55,8 +55,8 @@ pub(crate) fn read_on(bytes: &mut [u8], reading: Reading) -> Reading {
 // Line 1. It is missing where the input is empty, and then it cannot be read.
 pub(crate) fn first_line(bytes: &mut [u8]) -> Reading {
     let mut reading = read_from(bytes, line::begin(), 0, 0, false);
-    let mut turns = u64::MAX;
-    while turns > 0 {
+    let mut iterations = u64::MAX;
+    while iterations > 0 {
         reading = read_on(bytes, reading);
         if reading.is_whole {
             return reading;
@@ -64,7 +64,7 @@ pub(crate) fn first_line(bytes: &mut [u8]) -> Reading {
         if reading.is_last {
             return reading;
         }
-        turns -= 1;
+        iterations -= 1;
     }
     reading
 }

@@ -102,15 +102,15 @@ struct Run {
 // its iterations down, from a number that no run uses up.
 fn run_lines(begun: Run, slots: &mut [u64], bytes: &mut [u8], text: &mut [u8]) -> Run {
     let mut run = begun;
-    let mut turns = u64::MAX;
-    while turns > 0 {
+    let mut iterations = u64::MAX;
+    while iterations > 0 {
         run = run_whole_lines(run, slots, bytes, text);
         let reading = run.reading;
         if reading.is_last {
             return run;
         }
         run.reading = read_on(bytes, reading);
-        turns -= 1;
+        iterations -= 1;
     }
     run
 }
@@ -122,8 +122,8 @@ fn run_whole_lines(begun: Run, slots: &mut [u64], bytes: &[u8], text: &mut [u8])
     let mut reading = begun.reading;
     let mut number = begun.number;
     let mut filled = begun.filled;
-    let mut turns = u64::MAX;
-    while turns > 0 {
+    let mut iterations = u64::MAX;
+    while iterations > 0 {
         if !reading.is_whole {
             break;
         }
@@ -136,7 +136,7 @@ fn run_whole_lines(begun: Run, slots: &mut [u64], bytes: &[u8], text: &mut [u8])
         }
         filled = done.filled;
         reading = line_after(bytes, reading);
-        turns -= 1;
+        iterations -= 1;
     }
     Run {
         panel: panel,

@@ -136,28 +136,17 @@ module _ (works : ℕ → Bool) (x : ℕ) (tells : (i : ℕ) → i ≤ 16 → wo
       rw (count, start, digits) at found
       ∙ highest-other (x % 2 ^ (17 - place)) _ _ (around place low small)
 
--- the numbers that the code compares with and cuts by
-shifted : (width place : ℕ) → place ≤ width → 2 ^ width / 2 ^ place ≡ 2 ^ (width - place)
-shifted width place low =
-    let whole : width ≡ width - place + place = omega arith in
+-- the number that the code cuts by
+shifted : (place : ℕ) → place ≤ 17 → 131072 / 2 ^ place ≡ 2 ^ (17 - place)
+shifted place low =
+    let whole : 17 ≡ 17 - place + place = omega arith in
     ap (λ (n : ℕ). 2 ^ n / 2 ^ place) whole
-    ∙ ap (λ (y : ℕ). y / 2 ^ place) (pow-add 2 (width - place) place)
-    ∙ shl-shr (2 ^ (width - place)) place
+    ∙ ap (λ (y : ℕ). y / 2 ^ place) (pow-add 2 (17 - place) place)
+    ∙ shl-shr (2 ^ (17 - place)) place
 
 pub shifted-some : (place : ℕ) → place ≤ 17 → 1 ≤ 131072 / 2 ^ place
-shifted-some place low = rw (shifted 17 place low) (pow-pos (17 - place))
+shifted-some place low = rw (shifted place low) (pow-pos (17 - place))
 
 -- so it leaves the digits of the parties from the place on
 pub from-place : (x place : ℕ) → place ≤ 17 → bitAnd x (131072 / 2 ^ place - 1) ≡ x % 2 ^ (17 - place)
-from-place x place low = rw (shifted 17 place low) (and-mask x (17 - place))
-
--- of these the highest is the digit of the party at the place
-pub highest-first : (x place other : ℕ) → place ≤ 16 → 65536 / 2 ^ place ≤ bitAnd x (131072 / 2 ^ place - 1) → highest (bitAnd x (131072 / 2 ^ place - 1)) other ≡ place
-highest-first x place other low first =
-    let digits = bitAnd x (131072 / 2 ^ place - 1) in
-    let i = 16 - place in
-    let above : 2 ^ i ≤ digits = rw (sym (shifted 16 place low)) first in
-    let next : 17 - place ≡ suc i = omega arith in
-    let below : digits < 2 ^ suc i = rw (from-place x place (omega arith), next) (mod-lt x (pow-pos (suc i))) in
-    let some : (digits ≡ 0 → ⊥) = λ none. omega (arith, pow-pos i) in
-    highest-some digits other some ∙ omega (arith, leading-at digits i (omega arith) above below)
+from-place x place low = rw (shifted place low) (and-mask x (17 - place))

@@ -22,7 +22,7 @@ use Rattle.record.specs.Parts.{idleReader, workOf}
 use Rattle.record.specs.Idle.{isReaderIdle, isWriterIdle}
 use Rattle.circle.specs.Circle.{isAtWork}
 use Rattle.circle.specs.Marks.{markedWith, markedBehind, allMarked, isMarked, dueBy}
-use Rattle.circle.proofs.HighestDigit.{digit-kept, highest, highest-none, highest-some, leading-enough, told-due, from-place, highest-first}
+use Rattle.circle.proofs.HighestDigit.{digit-kept, highest, highest-none, highest-some, leading-enough, told-due, from-place}
 
 -- the writer's digit, and those of the readers behind it
 module _ (work : WriterWork) (marks : ℕ) where
@@ -87,12 +87,6 @@ module _ (marks all : ℕ) (work : WriterWork) (same : all ≡ allMarked work ma
         let low : place ≤ 16 = place-within fits place inside in
         rw (inside, same, from-place (allMarked work marks) place (omega arith))
         (sym (told-due (isMarked work marks) (allMarked work marks) (digits-tell work marks) place low (all-small work marks)))
-
-    -- the highest digit from the place on is that of the party at the place
-    pub due-first : 65536 / 2 ^ place ≤ bitAnd all (131072 / 2 ^ place - 1) → place ≡ dueBy fits place work marks
-    due-first first =
-        let low : place ≤ 16 = place-within fits place inside in
-        sym (highest-first all place (leadingZeros 32 all - 15) low first) ∙ due-highest
 
     pub due-around : bitAnd all (131072 / 2 ^ place - 1) ≡ 0 → leadingZeros 32 all - 15 ≡ dueBy fits place work marks
     due-around none = sym (highest-none _ (leadingZeros 32 all - 15) none) ∙ due-highest

@@ -62,11 +62,6 @@ pub fn party_due(fits: bool, place: u32, writer: Writer, marks: u32) -> u32
     }
     let all = all_marked(writer, marks);
     let from = all & ((131072 >> place) - 1);
-    // Where many have work it is the party tried first; by a test the processor goes on with its step before
-    // the marks are there.
-    if from >= 65536 >> place {
-        return place;
-    }
     if from == 0 {
         return u32::leading_zeros(all) - 15;
     }

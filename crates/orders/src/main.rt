@@ -86,14 +86,14 @@ fn run_input(
     out: &mut [u8],
 ) -> Progress {
     let mut now = begun;
-    let mut turns = u64::MAX;
-    while turns > 0 {
+    let mut iterations = u64::MAX;
+    while iterations > 0 {
         let count = read(bytes);
         if count == 0 {
             return now;
         }
         now = run_lines(now, count, slots, words, places, bytes, line, out);
-        turns -= 1;
+        iterations -= 1;
     }
     now
 }
@@ -111,14 +111,14 @@ fn run_lines(
 ) -> Progress {
     let mut now = begun.run;
     let mut part = next_part(bytes, 0, count, line, begun.length);
-    let mut turns = u64::MAX;
-    while turns > 0 {
+    let mut iterations = u64::MAX;
+    while iterations > 0 {
         if !part.is_whole {
             break;
         }
         now = run_line(now, line, part.length, slots, words, places, out);
         part = next_part(bytes, part.next, count, line, 0);
-        turns -= 1;
+        iterations -= 1;
     }
     Progress {
         run: now,

@@ -6,10 +6,10 @@ use Rattle.bench.proofs.run_lines.Statement.{statement}
 use Rattle.bench.proofs.run_lines.Tie as tie
 
 abbrev Inv-loop : tie.InvT-loop
-Inv-loop slots₀ bytes₀ text₀ run₀ turns₀ slots bytes text run turns = (length slots ≡ length slots₀) × (length bytes ≡ length bytes₀) × (length text ≡ length text₀)
+Inv-loop slots₀ bytes₀ text₀ run₀ iterations₀ slots bytes text run iterations = (length slots ≡ length slots₀) × (length bytes ≡ length bytes₀) × (length text ≡ length text₀)
 
 abbrev μ-loop : tie.MeasureT-loop
-μ-loop slots₀ bytes₀ text₀ run₀ turns₀ slots bytes text run turns = turns
+μ-loop slots₀ bytes₀ text₀ run₀ iterations₀ slots bytes text run iterations = iterations
 
 loop-holds : tie.Need-loop-holds Inv-loop μ-loop
 loop-holds c = search needs
@@ -32,8 +32,8 @@ returns c = search needs
 read-on-requires : tie.Need-read-on-requires Inv-loop μ-loop
 read-on-requires c κs = search needs
 
-sub-turns : tie.Need-sub-turns Inv-loop μ-loop
-sub-turns c = search needs
+sub-iterations : tie.Need-sub-iterations Inv-loop μ-loop
+sub-iterations c = search needs
 
 loop-less : tie.Need-loop-less Inv-loop μ-loop
 loop-less c = search needs
@@ -66,7 +66,7 @@ run-lines-spec =
     same-length-3
     returns
     read-on-requires
-    sub-turns
+    sub-iterations
     loop-less
     loop-again
     same-length-4

@@ -7,10 +7,10 @@ use Rattle.bench.proofs.run_whole_lines.Statement.{statement}
 use Rattle.bench.proofs.run_whole_lines.Tie as tie
 
 abbrev Inv-loop : tie.InvT-loop
-Inv-loop slots₀ bytes text₀ panel₀ reading₀ number₀ filled₀ turns₀ slots text panel reading number filled turns = (length slots ≡ length slots₀) × (length text ≡ length text₀)
+Inv-loop slots₀ bytes text₀ panel₀ reading₀ number₀ filled₀ iterations₀ slots text panel reading number filled iterations = (length slots ≡ length slots₀) × (length text ≡ length text₀)
 
 abbrev μ-loop : tie.MeasureT-loop
-μ-loop slots₀ bytes text₀ panel₀ reading₀ number₀ filled₀ turns₀ slots text panel reading number filled turns = turns
+μ-loop slots₀ bytes text₀ panel₀ reading₀ number₀ filled₀ iterations₀ slots text panel reading number filled iterations = iterations
 
 loop-holds : tie.Need-loop-holds Inv-loop μ-loop
 loop-holds c = search needs
@@ -30,8 +30,8 @@ with-changes-requires c κs = search needs
 line-after-requires : tie.Need-line-after-requires Inv-loop μ-loop
 line-after-requires c κs = search needs
 
-sub-turns : tie.Need-sub-turns Inv-loop μ-loop
-sub-turns c = omega (arith, c .before .before .before .before .before .before .before .before .before .before .before .before .before .before .before .loop-test)
+sub-iterations : tie.Need-sub-iterations Inv-loop μ-loop
+sub-iterations c = omega (arith, c .before .before .before .before .before .before .before .before .before .before .before .before .before .before .before .loop-test)
 
 loop-less : tie.Need-loop-less Inv-loop μ-loop
 loop-less c = omega (arith, c .before .before .before .before .before .before .before .before .before .before .before .before .before .before .before .loop-test)
@@ -69,7 +69,7 @@ run-whole-lines-spec =
     has-changes-requires
     with-changes-requires
     line-after-requires
-    sub-turns
+    sub-iterations
     loop-less
     loop-again
     same-length

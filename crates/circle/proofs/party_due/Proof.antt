@@ -4,7 +4,7 @@ use native.Mathlib.Omega.{arith}
 use borrow.Author.Needs.{needs}
 use borrow.Author.Tests.{not-true, not-false}
 use Rattle.circle.proofs.HighestDigit.{shifted-some}
-use Rattle.circle.proofs.MarksLaws.{place-within, due-outside, cut-leads, all-leads, due-first, due-around, due-ahead}
+use Rattle.circle.proofs.MarksLaws.{place-within, due-outside, cut-leads, all-leads, due-around, due-ahead}
 use Rattle.circle.proofs.party_due.Statement.{statement}
 use Rattle.circle.proofs.party_due.Tie as tie
 
@@ -32,44 +32,31 @@ sub-from c =
     let inside = sym (c .before .before .both-hold .ensures) ∙ not-false _ (c .before .if1 .left) in
     shifted-some (a .place) (omega (arith, place-within (a .fits) (a .place) inside))
 
-shr-if2 : tie.Need-shr-if2
-shr-if2 c =
-    let a = c .before .before .before .args in
-    let inside = sym (c .before .before .both-hold .ensures) ∙ not-false _ (c .before .if1 .left) in
-    omega (arith, place-within (a .fits) (a .place) inside)
+sub-result : tie.Need-sub-result
+sub-result c =
+    let a = c .before .before .before .before .args in
+    let all = c .before .all-marked in
+    all-leads (a .marks) (all .result) (a .writer .work) (all .ensures)
 
 returns-2 : tie.Need-returns-2
 returns-2 c =
     let a = c .before .before .before .before .args in
     let all = c .before .all-marked in
     let inside = sym (c .before .before .before .both-hold .ensures) ∙ not-false _ (c .before .before .if1 .left) in
-    due-first (a .marks) (all .result) (a .writer .work) (all .ensures) (a .fits) (a .place) inside (c .if2 .taken)
-
-sub-result : tie.Need-sub-result
-sub-result c =
-    let a = c .before .before .before .before .before .args in
-    let all = c .before .before .all-marked in
-    all-leads (a .marks) (all .result) (a .writer .work) (all .ensures)
-
-returns-3 : tie.Need-returns-3
-returns-3 c =
-    let a = c .before .before .before .before .before .args in
-    let all = c .before .before .all-marked in
-    let inside = sym (c .before .before .before .before .both-hold .ensures) ∙ not-false _ (c .before .before .before .if1 .left) in
-    due-around (a .marks) (all .result) (a .writer .work) (all .ensures) (a .fits) (a .place) inside (c .if3 .taken)
+    due-around (a .marks) (all .result) (a .writer .work) (all .ensures) (a .fits) (a .place) inside (c .if2 .taken)
 
 sub-result-2 : tie.Need-sub-result-2
 sub-result-2 c =
-    let a = c .before .before .before .before .before .args in
-    let all = c .before .before .all-marked in
+    let a = c .before .before .before .before .args in
+    let all = c .before .all-marked in
     cut-leads (a .marks) (all .result) (a .writer .work) (all .ensures) _
 
-returns-4 : tie.Need-returns-4
-returns-4 c =
-    let a = c .before .before .before .before .before .args in
-    let all = c .before .before .all-marked in
-    let inside = sym (c .before .before .before .before .both-hold .ensures) ∙ not-false _ (c .before .before .before .if1 .left) in
-    due-ahead (a .marks) (all .result) (a .writer .work) (all .ensures) (a .fits) (a .place) inside (c .if3 .left)
+returns-3 : tie.Need-returns-3
+returns-3 c =
+    let a = c .before .before .before .before .args in
+    let all = c .before .all-marked in
+    let inside = sym (c .before .before .before .both-hold .ensures) ∙ not-false _ (c .before .before .if1 .left) in
+    due-ahead (a .marks) (all .result) (a .writer .work) (all .ensures) (a .fits) (a .place) inside (c .if2 .left)
 
 pub party-due-spec : {M : Type 1} → statement M
 party-due-spec =
@@ -80,9 +67,7 @@ party-due-spec =
     all-marked-requires
     shr-from
     sub-from
-    shr-if2
-    returns-2
     sub-result
-    returns-3
+    returns-2
     sub-result-2
-    returns-4)
+    returns-3)

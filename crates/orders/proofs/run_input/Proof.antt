@@ -6,10 +6,10 @@ use Rattle.orders.proofs.run_input.Statement.{statement}
 use Rattle.orders.proofs.run_input.Tie as tie
 
 abbrev Inv-loop : tie.InvT-loop
-Inv-loop slots₀ words₀ places₀ bytes₀ line₀ out₀ now₀ turns₀ slots words places bytes line out now turns = (size slots ≡ size slots₀) × (size words ≡ size words₀) × (size places ≡ size places₀) × (size bytes ≡ size bytes₀) × (size line ≡ size line₀) × (size out ≡ size out₀)
+Inv-loop slots₀ words₀ places₀ bytes₀ line₀ out₀ now₀ iterations₀ slots words places bytes line out now iterations = (size slots ≡ size slots₀) × (size words ≡ size words₀) × (size places ≡ size places₀) × (size bytes ≡ size bytes₀) × (size line ≡ size line₀) × (size out ≡ size out₀)
 
 abbrev μ-loop : tie.MeasureT-loop
-μ-loop slots₀ words₀ places₀ bytes₀ line₀ out₀ now₀ turns₀ slots words places bytes line out now turns = turns
+μ-loop slots₀ words₀ places₀ bytes₀ line₀ out₀ now₀ iterations₀ slots words places bytes line out now iterations = iterations
 
 loop-holds : tie.Need-loop-holds Inv-loop μ-loop
 loop-holds c = search needs
@@ -41,8 +41,8 @@ returns c = search needs
 run-lines-requires : tie.Need-run-lines-requires Inv-loop μ-loop
 run-lines-requires c κs = search needs
 
-sub-turns : tie.Need-sub-turns Inv-loop μ-loop
-sub-turns c = search needs
+sub-iterations : tie.Need-sub-iterations Inv-loop μ-loop
+sub-iterations c = search needs
 
 loop-less : tie.Need-loop-less Inv-loop μ-loop
 loop-less c = search needs
@@ -87,7 +87,7 @@ run-input-spec =
     same-length-6
     returns
     run-lines-requires
-    sub-turns
+    sub-iterations
     loop-less
     loop-again
     same-length-7

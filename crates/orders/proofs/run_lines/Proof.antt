@@ -6,10 +6,10 @@ use Rattle.orders.proofs.run_lines.Statement.{statement}
 use Rattle.orders.proofs.run_lines.Tie as tie
 
 abbrev Inv-loop : tie.InvT-loop
-Inv-loop count slots₀ words₀ places₀ bytes line₀ out₀ now₀ part₀ turns₀ slots words places line out now part turns = (size slots ≡ size slots₀) × (size words ≡ size words₀) × (size places ≡ size places₀) × (size line ≡ size line₀) × (size out ≡ size out₀)
+Inv-loop count slots₀ words₀ places₀ bytes line₀ out₀ now₀ part₀ iterations₀ slots words places line out now part iterations = (size slots ≡ size slots₀) × (size words ≡ size words₀) × (size places ≡ size places₀) × (size line ≡ size line₀) × (size out ≡ size out₀)
 
 abbrev μ-loop : tie.MeasureT-loop
-μ-loop count slots₀ words₀ places₀ bytes line₀ out₀ now₀ part₀ turns₀ slots words places line out now part turns = turns
+μ-loop count slots₀ words₀ places₀ bytes line₀ out₀ now₀ part₀ iterations₀ slots words places line out now part iterations = iterations
 
 next-part-requires : tie.Need-next-part-requires Inv-loop μ-loop
 next-part-requires c κs = search needs
@@ -23,8 +23,8 @@ run-line-requires c κs = search needs
 next-part-requires-2 : tie.Need-next-part-requires-2 Inv-loop μ-loop
 next-part-requires-2 c κs = search needs
 
-sub-turns : tie.Need-sub-turns Inv-loop μ-loop
-sub-turns c = search needs
+sub-iterations : tie.Need-sub-iterations Inv-loop μ-loop
+sub-iterations c = search needs
 
 loop-less : tie.Need-loop-less Inv-loop μ-loop
 loop-less c = search needs
@@ -80,7 +80,7 @@ run-lines-spec =
     loop-holds
     run-line-requires
     next-part-requires-2
-    sub-turns
+    sub-iterations
     loop-less
     loop-again
     same-length

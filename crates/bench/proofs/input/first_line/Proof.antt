@@ -6,10 +6,10 @@ use Rattle.bench.proofs.input.first_line.Statement.{statement}
 use Rattle.bench.proofs.input.first_line.Tie as tie
 
 abbrev Inv-loop : tie.InvT-loop
-Inv-loop bytes₀ reading₀ turns₀ bytes reading turns = length bytes ≡ length bytes₀
+Inv-loop bytes₀ reading₀ iterations₀ bytes reading iterations = length bytes ≡ length bytes₀
 
 abbrev μ-loop : tie.MeasureT-loop
-μ-loop bytes₀ reading₀ turns₀ bytes reading turns = turns
+μ-loop bytes₀ reading₀ iterations₀ bytes reading iterations = iterations
 
 begin-requires : tie.Need-begin-requires Inv-loop μ-loop
 begin-requires c κs = search needs
@@ -35,8 +35,8 @@ same-length-2 c = search needs
 returns-2 : tie.Need-returns-2 Inv-loop μ-loop
 returns-2 c = search needs
 
-sub-turns : tie.Need-sub-turns Inv-loop μ-loop
-sub-turns c = search needs
+sub-iterations : tie.Need-sub-iterations Inv-loop μ-loop
+sub-iterations c = search needs
 
 loop-less : tie.Need-loop-less Inv-loop μ-loop
 loop-less c = search needs
@@ -64,7 +64,7 @@ first-line-spec =
     returns
     same-length-2
     returns-2
-    sub-turns
+    sub-iterations
     loop-less
     loop-again
     same-length-3

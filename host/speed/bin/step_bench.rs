@@ -1,15 +1,18 @@
 //! Benchmark of single calls: the program `step_speed`, by value and in place, beside the step
 //! machine in Rust, `expected_step_speed`, on the same lines. Prints a table: the ratio of times, best
-//! of several rounds, and, where there is `valgrind`, the instructions of a call; below it a turn beside
-//! a step. Exit status 1 if the two print different things or cannot be run.
+//! of several rounds, and, where there is `valgrind`, the instructions of a call. Exit status 1 if the two
+//! print different things or cannot be run.
 
 #[path = "../../common/child_program.rs"]
 mod child_program;
+#[path = "../step_lines.rs"]
+mod step_lines;
 #[path = "../timing.rs"]
 mod timing;
 
 use std::fs::read_to_string;
 use std::process::{Command, ExitCode, Stdio};
+use step_lines::{calls, printed};
 use timing::timed;
 
 const PROVED: &str = "target/bin/step_speed";
@@ -83,33 +86,11 @@ const KINDS: [Kind; 6] = [
 
 const SIZES: [(char, u32); 2] = [('S', 16), ('L', 4096)];
 
-/// The letters of a turn and of the step that it is beside, the power of ten of their runs, and who is at
-/// work.
-const TURNS_AND_STEPS: [(char, char, u32, &str); 2] = [
-    ('T', 'R', 5, "all 17 beside all 16 readers"),
-    ('O', 'S', 6, "one reader"),
-];
-
 /// The calls of a line, and the best times of the two programs in seconds.
 struct Times {
     calls: f64,
     proved: f64,
     rust: f64,
-}
-
-/// What a program prints for a line.
-fn printed(program: &str, line: &str) -> Result<String, String> {
-    let printed = child_program::run(program, line.as_bytes());
-    let printed = printed.map_err(|error| {
-        format!("{program}: {error}; run from the repository root, after rt check step_speed")
-    })?;
-    String::from_utf8(printed).map_err(|_| format!("{program}: no text"))
-}
-
-/// The calls made, the first number printed.
-fn calls(printed: &str) -> Result<f64, String> {
-    let first = printed.split(' ').next().and_then(|word| word.parse().ok());
-    first.ok_or_else(|| format!("{printed:?} does not begin with a number"))
 }
 
 fn times(line: &str) -> Result<Times, String> {
@@ -195,39 +176,6 @@ fn row(
     ))
 }
 
-/// Seconds that the proved program takes for a call of a line.
-fn seconds_a_call(line: &str) -> Result<f64, String> {
-    let (printed, seconds) = timed(|| printed(PROVED, line));
-    Ok(seconds / calls(&printed?)?)
-}
-
-/// A turn's time over a step's: both lines are run in each round, and the best of each counts.
-fn turn_beside_step(turn: &str, step: &str) -> Result<f64, String> {
-    let (mut of_turn, mut of_step) = (f64::INFINITY, f64::INFINITY);
-    for _ in 0..ROUNDS {
-        of_turn = seconds_a_call(turn)?.min(of_turn);
-        of_step = seconds_a_call(step)?.min(of_step);
-    }
-    Ok(of_turn / of_step)
-}
-
-/// The ratios of the proved program, in place.
-fn print_turns_beside_steps() -> Result<(), String> {
-    let titles = SIZES.map(|(_, m)| format!(" {m} slots |")).concat();
-    println!("| turn / step, in place |{titles}");
-    println!("|---|---:|---:|");
-    for (turn, step, power, at_work) in TURNS_AND_STEPS {
-        let mut row = format!("| {at_work} |");
-        for (size, _) in SIZES {
-            let line = |letter: char| format!("{letter}P{size}{power}\n");
-            let ratio = turn_beside_step(&line(turn), &line(step))?;
-            row.push_str(&format!(" {ratio:.2} |"));
-        }
-        println!("{row}");
-    }
-    Ok(())
-}
-
 fn bench() -> Result<(), String> {
     let counting = has_valgrind();
     println!("single calls, best of {ROUNDS} rounds:");
@@ -241,8 +189,7 @@ fn bench() -> Result<(), String> {
             }
         }
     }
-    println!();
-    print_turns_beside_steps()
+    Ok(())
 }
 
 fn main() -> ExitCode {

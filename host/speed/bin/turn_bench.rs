@@ -1,6 +1,6 @@
 //! Benchmark of a turn beside a step, both in place, in the program `step_speed`. Where its code lies
-//! changes the time of a call by a fifth and more, so the same object file is linked behind a different
-//! number of bytes each time; the arguments are the programs so made. Prints the mean of their times, the
+//! changes the time of a call by up to a third, so the same object file is linked behind a different number
+//! of bytes each time; the arguments are the programs so made. Prints the mean of their times, the
 //! best of several rounds each, and the least and the greatest ratio. Exit status 1 if one cannot be run.
 
 #[path = "../../common/child_program.rs"]

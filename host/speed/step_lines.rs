@@ -2,6 +2,9 @@
 
 use crate::child_program;
 
+/// The letter of a size, and the number of slots.
+pub const SIZES: [(char, u32); 2] = [('S', 16), ('L', 4096)];
+
 /// What a program prints for a line.
 pub fn printed(program: &str, line: &str) -> Result<String, String> {
     let printed = child_program::run(program, line.as_bytes());

@@ -249,9 +249,12 @@ module _ (world : World) (ok : TurnsOK world) (after : Outcome) where
     unfolding noted logAfter
     served-ok one is =
         record {
-          place-low = subst (λ (l : List ℕ). placeMoved (log .place) l ≤ 16) (sym one) (after-low party);
-          each = λ other inside works. subst (λ (l : List ℕ). PartyOK (placeMoved (log .place) l) other (stepsOf (noted world (stepOf party) after) other) (turnsNow given (stepOf party) other (world .turns other))) (sym one) (turn-ok one is other (ℕ-discrete other party) inside works);
+          place-low = subst (λ (place : ℕ). place ≤ 16) (sym moved) (after-low party);
+          each = λ other inside works. subst (λ (place : ℕ). PartyOK place other (stepsOf (noted world (stepOf party) after) other) (turnsNow given (stepOf party) other (world .turns other))) (sym moved) (turn-ok one is other (ℕ-discrete other party) inside works);
         }
+      where
+        moved : placeMoved (log .place) served-by ≡ partyAfter party
+        moved = ap (placeMoved (log .place)) one
 
   pub turns-kept : (role : Role) → Made log role given → TurnsOK (noted world role after)
   turns-kept role (reader-starts {reader = reader} {begun = begun} none) = unserved (readerStart reader begun) none (reader-began-ok reader begun)

@@ -12,7 +12,7 @@ mod timing;
 
 use std::fs::read_to_string;
 use std::process::{Command, ExitCode, Stdio};
-use step_lines::{calls, printed};
+use step_lines::{calls, printed, SIZES};
 use timing::timed;
 
 const PROVED: &str = "target/bin/step_speed";
@@ -83,8 +83,6 @@ const KINDS: [Kind; 6] = [
         counted: 1,
     },
 ];
-
-const SIZES: [(char, u32); 2] = [('S', 16), ('L', 4096)];
 
 /// The calls of a line, and the best times of the two programs in seconds.
 struct Times {

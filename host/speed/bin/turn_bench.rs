@@ -12,13 +12,10 @@ mod timing;
 
 use std::env::args;
 use std::process::ExitCode;
-use step_lines::{calls, printed};
+use step_lines::{calls, printed, SIZES};
 use timing::timed;
 
 const ROUNDS: usize = 9;
-
-/// The letter of a size, and the number of slots.
-const SIZES: [(char, u32); 2] = [('S', 16), ('L', 4096)];
 
 /// The letters of a turn and of the step that it is beside, the power of ten of their runs, and who is at
 /// work.

@@ -30,7 +30,22 @@ both-hold-requires-6 c κs = search needs
 
 returns : tie.Need-returns
 unfolding partsInRange
-returns c = cc
+returns c =
+    let c₅ = c .before in
+    let c₄ = c₅ .before in
+    let c₃ = c₄ .before in
+    let c₂ = c₃ .before in
+    let c₁ = c₂ .before in
+    rw (
+      c .both-hold6 .ensures,
+      c₅ .both-hold5 .ensures,
+      c₄ .both-hold4 .ensures,
+      c₃ .both-hold3 .ensures,
+      c₂ .both-hold2 .ensures,
+      c₁ .both-hold .ensures,
+      c₁ .before .is-writer-in-range .ensures,
+      c₁ .before .before .are-sizes-in-range .ensures,
+    )
 
 pub are-parts-in-range-spec : {M : Type 1} → statement M
 are-parts-in-range-spec =

@@ -14,6 +14,7 @@ use Rattle.record.specs.declared.CommandAnswer.{CommandAnswer}
 use Rattle.record.specs.declared.CommandAnswer.the-variants.{Value, Unknown as CommandAnswer·Unknown}
 use Rattle.answers.specs.declared.Ending.{Ending as EndingEnum}
 use Rattle.answers.specs.declared.Ending.the-variants.{LookedUp, Placed, Changed, Removed, NoPerch, Unknown}
+use Rattle.answers.specs.declared.Completion.{Completion as CompletionStruct}
 use Rattle.answers.specs.declared.Progress.{Progress as ProgressEnum}
 use Rattle.answers.specs.declared.Progress.the-variants.{Underway as Progress·Underway, Ended as Progress·Ended}
 use Rattle.answers.specs.declared.StepResult.{StepResult}
@@ -36,7 +37,7 @@ use Rattle.answers.specs.declared.TotalAnswer.{TotalAnswer}
 use Rattle.answers.specs.declared.TotalAnswer.the-variants.{Total, Refused as TotalAnswer·Refused}
 use Rattle.answers.specs.declared.DisplayAnswer.{DisplayAnswer}
 use Rattle.answers.specs.declared.DisplayAnswer.the-variants.{Shown, Refused as DisplayAnswer·Refused}
-use Rattle.answers.specs.Answers.{Ending, lookedUp, placed, changed, removed, endedWith, Answer, started, underway, ended, walked, walkedLast, served, givenAgain, gives, refused, Progress, continues, finishes, isStarted, isRefused, unlessRefused, storedAnswer, paperEnding, paperProgress, paperResult, paperStep, paperStart, paperEntry, paperTurn, paperCall, paperWhole, paperFresh, paperTotal, paperDisplay}
+use Rattle.answers.specs.Answers.{Ending, lookedUp, placed, changed, removed, endedWith, Completion, Answer, started, underway, ended, walked, walkedLast, served, givenAgain, gives, refused, Progress, continues, finishes, isStarted, isRefused, unlessRefused, storedAnswer, paperEnding, paperCompletion, paperProgress, paperResult, paperStep, paperStart, paperEntry, paperTurn, paperCall, paperWhole, paperFresh, paperTotal, paperDisplay}
 
 module _ {A : Type 0} (left : Answer → A) (done : A) where
   by-number : (n : ℕ) → 1 ≤ n → unlessRefused n left done ≡ left (refused n)
@@ -60,13 +61,13 @@ unless P (suc n) left done a b = a _
 -- a step that is carried out is no refusal and no start
 pub result-not-refused : (result : StepResult) → isRefused (paperResult result) ≡ false
 result-not-refused StepResult·Underway = refl
-result-not-refused (StepResult·Ended ending) = refl
+result-not-refused (StepResult·Ended completion) = refl
 result-not-refused (Walked word) = refl
 result-not-refused (WalkedLast word) = refl
 
 pub result-not-started : (result : StepResult) → isStarted (paperResult result) ≡ false
 result-not-started StepResult·Underway = refl
-result-not-started (StepResult·Ended ending) = refl
+result-not-started (StepResult·Ended completion) = refl
 result-not-started (Walked word) = refl
 result-not-started (WalkedLast word) = refl
 
@@ -77,6 +78,9 @@ asEnding (placed slot index) = Placed (record { slot = slot; index = index })
 asEnding (changed value) = Changed value
 asEnding (removed reach) = Removed reach
 asEnding (endedWith n) = cond (eqb n 6) NoPerch Unknown
+
+asCompletion : Completion → CompletionStruct
+asCompletion completion = record { ending = asEnding (completion .ending); steps = completion .steps }
 
 asProgress : Progress → ProgressEnum
 asProgress continues = Progress·Underway
@@ -92,7 +96,7 @@ asStored (endedWith n) = CommandAnswer·Unknown
 -- a turn's answer from what the step gave
 servedAs : ℕ → CallAnswer → CallAnswer
 servedAs party CallAnswer·Started = CallAnswer·Started
-servedAs party (CallAnswer·GivenAgain answer) = CallAnswer·Started
+servedAs party (CallAnswer·GivenAgain answer steps) = CallAnswer·Started
 servedAs party (CallAnswer·Stepped result) = CallAnswer·Served party result
 servedAs party (CallAnswer·Served other result) = CallAnswer·Started
 servedAs party (CallAnswer·Refused r) = CallAnswer·Started
@@ -101,76 +105,79 @@ servedAs party (CallAnswer·Refused r) = CallAnswer·Started
 asCall : Answer → CallAnswer
 asCall started = CallAnswer·Started
 asCall underway = CallAnswer·Stepped StepResult·Underway
-asCall (ended ending) = CallAnswer·Stepped (StepResult·Ended (asEnding ending))
+asCall (ended completion) = CallAnswer·Stepped (StepResult·Ended (asCompletion completion))
 asCall (walked word) = CallAnswer·Stepped (Walked word)
 asCall (walkedLast word) = CallAnswer·Stepped (WalkedLast word)
 asCall (served party answer) = servedAs party (asCall answer)
-asCall (givenAgain ending) = CallAnswer·GivenAgain (asStored ending)
+asCall (givenAgain completion) = CallAnswer·GivenAgain (asStored (completion .ending)) (completion .steps)
 asCall (gives values) = CallAnswer·Started
 asCall (refused n) = CallAnswer·Refused (rowOf n)
 
 -- the same answer of each kind of call
 ofStep : CallAnswer → StepAnswer
 ofStep CallAnswer·Started = StepAnswer·Stepped StepResult·Underway
-ofStep (CallAnswer·GivenAgain answer) = StepAnswer·Stepped StepResult·Underway
+ofStep (CallAnswer·GivenAgain answer steps) = StepAnswer·Stepped StepResult·Underway
 ofStep (CallAnswer·Stepped result) = StepAnswer·Stepped result
 ofStep (CallAnswer·Served party result) = StepAnswer·Stepped StepResult·Underway
 ofStep (CallAnswer·Refused r) = StepAnswer·Refused r
 
 ofTurn : CallAnswer → TurnAnswer
 ofTurn CallAnswer·Started = TurnAnswer·Served 0 StepResult·Underway
-ofTurn (CallAnswer·GivenAgain answer) = TurnAnswer·Served 0 StepResult·Underway
+ofTurn (CallAnswer·GivenAgain answer steps) = TurnAnswer·Served 0 StepResult·Underway
 ofTurn (CallAnswer·Stepped result) = TurnAnswer·Served 0 StepResult·Underway
 ofTurn (CallAnswer·Served party result) = TurnAnswer·Served party result
 ofTurn (CallAnswer·Refused r) = TurnAnswer·Refused r
 
 ofEntry : CallAnswer → EntryAnswer
 ofEntry CallAnswer·Started = EntryAnswer·Started
-ofEntry (CallAnswer·GivenAgain answer) = EntryAnswer·GivenAgain answer
+ofEntry (CallAnswer·GivenAgain answer steps) = EntryAnswer·GivenAgain answer steps
 ofEntry (CallAnswer·Stepped result) = EntryAnswer·Started
 ofEntry (CallAnswer·Served party result) = EntryAnswer·Started
 ofEntry (CallAnswer·Refused r) = EntryAnswer·Refused r
 
 ofStart : CallAnswer → StartAnswer
 ofStart CallAnswer·Started = StartAnswer·Started
-ofStart (CallAnswer·GivenAgain answer) = StartAnswer·Started
+ofStart (CallAnswer·GivenAgain answer steps) = StartAnswer·Started
 ofStart (CallAnswer·Stepped result) = StartAnswer·Started
 ofStart (CallAnswer·Served party result) = StartAnswer·Started
 ofStart (CallAnswer·Refused r) = StartAnswer·Refused r
 
-endingOf : StepResult → EndingEnum
-endingOf StepResult·Underway = Unknown
-endingOf (StepResult·Ended ending) = ending
-endingOf (Walked word) = Unknown
-endingOf (WalkedLast word) = Unknown
+noCompletion : CompletionStruct
+noCompletion = record { ending = Unknown; steps = 0 }
+
+completionOf : StepResult → CompletionStruct
+completionOf StepResult·Underway = noCompletion
+completionOf (StepResult·Ended completion) = completion
+completionOf (Walked word) = noCompletion
+completionOf (WalkedLast word) = noCompletion
 
 ofWhole : CallAnswer → WholeAnswer
-ofWhole CallAnswer·Started = WholeAnswer·Ended Unknown
-ofWhole (CallAnswer·GivenAgain answer) = WholeAnswer·Ended Unknown
-ofWhole (CallAnswer·Stepped result) = WholeAnswer·Ended (endingOf result)
-ofWhole (CallAnswer·Served party result) = WholeAnswer·Ended Unknown
+ofWhole CallAnswer·Started = WholeAnswer·Ended noCompletion
+ofWhole (CallAnswer·GivenAgain answer steps) = WholeAnswer·Ended noCompletion
+ofWhole (CallAnswer·Stepped result) = WholeAnswer·Ended (completionOf result)
+ofWhole (CallAnswer·Served party result) = WholeAnswer·Ended noCompletion
 ofWhole (CallAnswer·Refused r) = WholeAnswer·Refused r
 
 -- the number of a refusal, and the first of the values, of the calls without steps
 refusal : Answer → Refusal
 refusal started = rowOf 0
 refusal underway = rowOf 0
-refusal (ended ending) = rowOf 0
+refusal (ended completion) = rowOf 0
 refusal (walked word) = rowOf 0
 refusal (walkedLast word) = rowOf 0
 refusal (served party answer) = rowOf 0
-refusal (givenAgain ending) = rowOf 0
+refusal (givenAgain completion) = rowOf 0
 refusal (gives values) = rowOf 0
 refusal (refused n) = rowOf n
 
 values : Answer → List ℕ
 values started = []
 values underway = []
-values (ended ending) = []
+values (ended completion) = []
 values (walked word) = []
 values (walkedLast word) = []
 values (served party answer) = []
-values (givenAgain ending) = []
+values (givenAgain completion) = []
 values (gives some) = some
 values (refused n) = []
 
@@ -192,6 +199,10 @@ ending-back (Removed reach) = refl
 ending-back NoPerch = refl
 ending-back Unknown = refl
 
+completion-back : (a : CompletionStruct) → asCompletion (paperCompletion a) ≡ a
+unfolding asCompletion
+completion-back a = ap (λ (ending : EndingEnum). record { ending = ending; steps = a .steps }) (ending-back (a .ending))
+
 stored-back : (a : CommandAnswer) → asStored (storedAnswer a) ≡ a
 unfolding asStored storedAnswer
 stored-back (Value value) = refl
@@ -200,7 +211,7 @@ stored-back CommandAnswer·Unknown = refl
 result-back : (a : StepResult) → asCall (paperResult a) ≡ CallAnswer·Stepped a
 unfolding asCall
 result-back StepResult·Underway = refl
-result-back (StepResult·Ended ending) = ap (λ (e : EndingEnum). CallAnswer·Stepped (StepResult·Ended e)) (ending-back ending)
+result-back (StepResult·Ended completion) = ap (λ (c : CompletionStruct). CallAnswer·Stepped (StepResult·Ended c)) (completion-back completion)
 result-back (Walked word) = refl
 result-back (WalkedLast word) = refl
 
@@ -221,7 +232,7 @@ call-tells = LeftInverse·injective asCall paperCall back
   where
     back : (a : CallAnswer) → asCall (paperCall a) ≡ a
     back CallAnswer·Started = refl
-    back (CallAnswer·GivenAgain answer) = ap CallAnswer·GivenAgain (stored-back answer)
+    back (CallAnswer·GivenAgain answer steps) = ap (λ (stored : CommandAnswer). CallAnswer·GivenAgain stored steps) (stored-back answer)
     back (CallAnswer·Stepped result) = result-back result
     back (CallAnswer·Served party result) = ap (servedAs party) (result-back result)
     back (CallAnswer·Refused r) = ap CallAnswer·Refused (row-of-number r)
@@ -248,7 +259,7 @@ entry-tells = LeftInverse·injective (λ (answer : Answer). ofEntry (asCall answ
   where
     back : (a : EntryAnswer) → ofEntry (asCall (paperEntry a)) ≡ a
     back EntryAnswer·Started = refl
-    back (EntryAnswer·GivenAgain answer) = ap EntryAnswer·GivenAgain (stored-back answer)
+    back (EntryAnswer·GivenAgain answer steps) = ap (λ (stored : CommandAnswer). EntryAnswer·GivenAgain stored steps) (stored-back answer)
     back (EntryAnswer·Refused r) = ap EntryAnswer·Refused (row-of-number r)
 
 pub start-tells : (a b : StartAnswer) → paperStart a ≡ paperStart b → a ≡ b
@@ -260,11 +271,11 @@ start-tells = LeftInverse·injective (λ (answer : Answer). ofStart (asCall answ
     back (StartAnswer·Refused r) = ap StartAnswer·Refused (row-of-number r)
 
 pub whole-tells : (a b : WholeAnswer) → paperWhole a ≡ paperWhole b → a ≡ b
-unfolding asCall ofWhole endingOf
+unfolding asCall ofWhole completionOf
 whole-tells = LeftInverse·injective (λ (answer : Answer). ofWhole (asCall answer)) paperWhole back
   where
     back : (a : WholeAnswer) → ofWhole (asCall (paperWhole a)) ≡ a
-    back (WholeAnswer·Ended ending) = ap WholeAnswer·Ended (ending-back ending)
+    back (WholeAnswer·Ended completion) = ap WholeAnswer·Ended (completion-back completion)
     back (WholeAnswer·Refused r) = ap WholeAnswer·Refused (row-of-number r)
 
 pub fresh-tells : (a b : FreshAnswer) → paperFresh a ≡ paperFresh b → a ≡ b

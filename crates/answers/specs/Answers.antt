@@ -8,6 +8,7 @@ use Rattle.record.specs.declared.CommandAnswer.{CommandAnswer}
 use Rattle.record.specs.declared.CommandAnswer.the-variants.{Value, Unknown as CommandAnswer·Unknown}
 use Rattle.answers.specs.declared.Ending.{Ending as EndingEnum}
 use Rattle.answers.specs.declared.Ending.the-variants.{LookedUp, Placed, Changed, Removed, NoPerch, Unknown}
+use Rattle.answers.specs.declared.Completion.{Completion as CompletionStruct}
 use Rattle.answers.specs.declared.Progress.{Progress as ProgressEnum}
 use Rattle.answers.specs.declared.Progress.the-variants.{Underway as Progress·Underway, Ended as Progress·Ended}
 use Rattle.answers.specs.declared.StepResult.{StepResult}
@@ -44,6 +45,15 @@ pub data Ending : Type 0 where
   -- "6 and 7 end their operation"
   endedWith : ℕ → Ending
 
+-- request N2: each finished operation "now also gives the number of steps it took"
+pub record Completion : Type 0 where
+  pub ending : Ending
+  pub steps : ℕ
+
+-- the two together
+abbrev pub completed : Ending → ℕ → Completion
+completed ending steps = record { ending = ending; steps = steps }
+
 -- an answer, the same type for every call
 pub data Answer : Type 0 where
   -- the operation has been started
@@ -51,7 +61,7 @@ pub data Answer : Type 0 where
   -- "Any other step says “underway”"
   underway : Answer
   -- the operation has ended with this
-  ended : Ending → Answer
+  ended : Completion → Answer
   -- "each walk step gives the word read"
   walked : ℕ → Answer
   -- "and the m-th also ends the walk"
@@ -59,7 +69,7 @@ pub data Answer : Type 0 where
   -- a turn: "it hands back the party served, with 6 and 7 too, and what its step gave"
   served : ℕ → Answer → Answer
   -- "the stored answer is given again"
-  givenAgain : Ending → Answer
+  givenAgain : Completion → Answer
   -- a call without steps: its values
   gives : List ℕ → Answer
   -- refused by that number, and nothing happened
@@ -70,10 +80,10 @@ pub data Progress : Type 0 where
   continues : Progress
   finishes : Ending → Progress
 
--- what the step then answers
-abbrev pub stepAnswer : Progress → Answer
-stepAnswer continues = underway
-stepAnswer (finishes ending) = ended ending
+-- what the step then answers, the operation's steps counted with it
+abbrev pub stepAnswer : ℕ → Progress → Answer
+stepAnswer steps continues = underway
+stepAnswer steps (finishes ending) = ended (completed ending steps)
 
 -- what ends an operation
 abbrev pub paperEnding : EndingEnum → Ending
@@ -84,6 +94,10 @@ paperEnding (Removed reach) = removed reach
 paperEnding NoPerch = endedWith 6
 paperEnding Unknown = endedWith 7
 
+-- a finished operation
+abbrev pub paperCompletion : CompletionStruct → Completion
+paperCompletion completion = completed (paperEnding (completion .ending)) (completion .steps)
+
 -- what a put, change or removal comes to in a step
 abbrev pub paperProgress : ProgressEnum → Progress
 paperProgress Progress·Underway = continues
@@ -92,7 +106,7 @@ paperProgress (Progress·Ended ending) = finishes (paperEnding ending)
 -- a step that is carried out
 abbrev pub paperResult : StepResult → Answer
 paperResult StepResult·Underway = underway
-paperResult (StepResult·Ended ending) = ended (paperEnding ending)
+paperResult (StepResult·Ended completion) = ended (paperCompletion completion)
 paperResult (Walked word) = walked word
 paperResult (WalkedLast word) = walkedLast word
 
@@ -114,7 +128,7 @@ storedAnswer CommandAnswer·Unknown = endedWith 7
 -- the command entry
 abbrev pub paperEntry : EntryAnswer → Answer
 paperEntry EntryAnswer·Started = started
-paperEntry (EntryAnswer·GivenAgain answer) = givenAgain (storedAnswer answer)
+paperEntry (EntryAnswer·GivenAgain answer steps) = givenAgain (completed (storedAnswer answer) steps)
 paperEntry (EntryAnswer·Refused r) = refused (numberOf r)
 
 -- a turn
@@ -125,14 +139,14 @@ paperTurn (TurnAnswer·Refused r) = refused (numberOf r)
 -- any call of a list
 abbrev pub paperCall : CallAnswer → Answer
 paperCall CallAnswer·Started = started
-paperCall (CallAnswer·GivenAgain answer) = givenAgain (storedAnswer answer)
+paperCall (CallAnswer·GivenAgain answer steps) = givenAgain (completed (storedAnswer answer) steps)
 paperCall (CallAnswer·Stepped result) = paperResult result
 paperCall (CallAnswer·Served party result) = served party (paperResult result)
 paperCall (CallAnswer·Refused r) = refused (numberOf r)
 
 -- an operation that is carried out whole
 abbrev pub paperWhole : WholeAnswer → Answer
-paperWhole (WholeAnswer·Ended ending) = ended (paperEnding ending)
+paperWhole (WholeAnswer·Ended completion) = ended (paperCompletion completion)
 paperWhole (WholeAnswer·Refused r) = refused (numberOf r)
 
 -- making a fresh record
@@ -154,11 +168,11 @@ paperDisplay (DisplayAnswer·Refused r) = refused (numberOf r)
 abbrev pub isUnderway : Answer → Bool
 isUnderway started = true
 isUnderway underway = true
-isUnderway (ended ending) = false
+isUnderway (ended completion) = false
 isUnderway (walked word) = true
 isUnderway (walkedLast word) = false
 isUnderway (served party answer) = isUnderway answer
-isUnderway (givenAgain ending) = false
+isUnderway (givenAgain completion) = false
 isUnderway (gives values) = false
 isUnderway (refused n) = false
 
@@ -166,11 +180,11 @@ isUnderway (refused n) = false
 abbrev pub hasEnded : Answer → Bool
 hasEnded started = false
 hasEnded underway = false
-hasEnded (ended ending) = true
+hasEnded (ended completion) = true
 hasEnded (walked word) = false
 hasEnded (walkedLast word) = true
 hasEnded (served party answer) = hasEnded answer
-hasEnded (givenAgain ending) = false
+hasEnded (givenAgain completion) = false
 hasEnded (gives values) = false
 hasEnded (refused n) = false
 
@@ -178,11 +192,11 @@ hasEnded (refused n) = false
 abbrev pub isStarted : Answer → Bool
 isStarted started = true
 isStarted underway = false
-isStarted (ended ending) = false
+isStarted (ended completion) = false
 isStarted (walked word) = false
 isStarted (walkedLast word) = false
 isStarted (served party answer) = isStarted answer
-isStarted (givenAgain ending) = false
+isStarted (givenAgain completion) = false
 isStarted (gives values) = false
 isStarted (refused n) = false
 
@@ -190,11 +204,11 @@ isStarted (refused n) = false
 abbrev pub isRefused : Answer → Bool
 isRefused started = false
 isRefused underway = false
-isRefused (ended ending) = false
+isRefused (ended completion) = false
 isRefused (walked word) = false
 isRefused (walkedLast word) = false
 isRefused (served party answer) = isRefused answer
-isRefused (givenAgain ending) = false
+isRefused (givenAgain completion) = false
 isRefused (gives values) = false
 isRefused (refused n) = true
 

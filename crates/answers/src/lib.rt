@@ -27,6 +27,13 @@ pub struct Spot {
     pub index: u32,
 }
 
+// A lookup, put, change or removal that has ended.
+pub struct Completion {
+    pub ending: Ending,
+    // the number of steps it took
+    pub steps: u32,
+}
+
 // What a put, change or removal comes to in a step.
 pub enum Progress {
     Underway,
@@ -36,7 +43,7 @@ pub enum Progress {
 // What a step gives that is carried out.
 pub enum StepResult {
     Underway,
-    Ended(Ending),
+    Ended(Completion),
     // the word that a walk read
     Walked(u64),
     // the same, and the walk has ended
@@ -58,8 +65,8 @@ pub enum StartAnswer {
 // Of the command entry.
 pub enum EntryAnswer {
     Started,
-    // the station's last command again: its stored answer
-    GivenAgain(CommandAnswer),
+    // the station's last command again: its stored answer, which takes no step
+    GivenAgain { answer: CommandAnswer, steps: u32 },
     Refused(Refusal),
 }
 
@@ -73,7 +80,7 @@ pub enum TurnAnswer {
 // Of any call of a list: each answer of the four kinds above once.
 pub enum CallAnswer {
     Started,
-    GivenAgain(CommandAnswer),
+    GivenAgain { answer: CommandAnswer, steps: u32 },
     Stepped(StepResult),
     Served { party: u32, result: StepResult },
     Refused(Refusal),
@@ -81,7 +88,7 @@ pub enum CallAnswer {
 
 // Of an operation that is carried out whole.
 pub enum WholeAnswer {
-    Ended(Ending),
+    Ended(Completion),
     Refused(Refusal),
 }
 
@@ -139,12 +146,15 @@ pub struct FreshOutcome {
     pub answer: FreshAnswer,
 }
 
-// What a step gives, by what the put, change or removal has come to.
-pub fn result_of(progress: Progress) -> StepResult
-    ensures { λ r. ⌜ paperResult r ≡ stepAnswer (paperProgress progress) ⌝ }
+// What a step gives, by what the put, change or removal has come to and by the steps counted so far.
+pub fn result_of(progress: Progress, steps: u32) -> StepResult
+    ensures { λ r. ⌜ paperResult r ≡ stepAnswer steps (paperProgress progress) ⌝ }
 {
     match progress {
         Progress::Underway => StepResult::Underway,
-        Progress::Ended(ending) => StepResult::Ended(ending),
+        Progress::Ended(ending) => StepResult::Ended(Completion {
+            ending: ending,
+            steps: steps,
+        }),
     }
 }

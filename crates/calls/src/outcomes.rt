@@ -28,7 +28,10 @@ fn of_entry(answer: EntryAnswer) -> CallAnswer
 {
     match answer {
         EntryAnswer::Started => CallAnswer::Started,
-        EntryAnswer::GivenAgain(stored) => CallAnswer::GivenAgain(stored),
+        EntryAnswer::GivenAgain { answer, steps } => CallAnswer::GivenAgain {
+            answer: answer,
+            steps: steps,
+        },
         EntryAnswer::Refused(refusal) => CallAnswer::Refused(refusal),
     }
 }

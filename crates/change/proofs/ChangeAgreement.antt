@@ -88,7 +88,7 @@ module _ (panel : Record) (slots : List ℕ) (rows : Rows) (change : Change) (ag
   -- a step that reads, and goes on at this stage
   on-stage : (read : ReadAccess) (stage : ChangeStage) → ChangeOK m k (panel .reach) slots rows q stage → StepOK panel slots (Read read) (changeAt change stage) rows (changeTold change rows) (Changing change)
   unfolding slotsAfter changeAt goesOn updated begun
-  on-stage read stage h = goes-on refl refl refl refl refl refl refl (record { agrees = agrees; work = (h, flips) })
+  on-stage read stage h = goes-on refl refl refl refl refl refl refl refl (record { agrees = agrees; work = (h, flips) })
 
   searched : (read : ReadAccess) (after : Searched) → Tight m k (panel .reach) rows → Knows (entryOf q rows ≡ absent) m k q rows after → StepOK panel slots (Read read) (changeSearched change after) rows (changeTold change rows) (Changing change)
   unfolding changeSearched changeAnswered commandEnds changeRow changeEntry storedAnswer slotsAfter
@@ -124,6 +124,5 @@ module _ (panel : Record) (slots : List ℕ) (rows : Rows) (change : Change) (ag
 pub change-agrees : (panel : Record) (slots : List ℕ) (rows : Rows) (change : Change) → Agrees (panel .m) (panel .k) (panel .reach) (panel .counts) slots rows → changeInRange (panel .k) change ≡ true → WorkOK (panel .m) (panel .k) (panel .reach) slots rows (Changing change) → StepOK panel slots (changeAccess (panel .m) change) (changeAdvance (panel .reach) change (accessRead slots (changeAccess (panel .m) change))) rows (changeTold change rows) (Changing change)
 unfolding changeAccess changeAdvance changeInRange
 change-agrees panel slots rows change agrees inside h =
-    let rest = both-right (validPoint (change .point)) (both (alterationInRange (change .alteration)) (changeStageInRange (panel .k) (change .stage))) inside in
-    at-stage panel slots rows change agrees (both-left (validPoint (change .point)) (both (alterationInRange (change .alteration)) (changeStageInRange (panel .k) (change .stage))) inside) (h .1) (change .stage)
-    (both-right (alterationInRange (change .alteration)) (changeStageInRange (panel .k) (change .stage)) rest) (h .0)
+    let rest = both-right (alterationInRange (change .alteration)) _ (both-right (validPoint (change .point)) _ inside) in
+    at-stage panel slots rows change agrees (both-left (validPoint (change .point)) _ inside) (h .1) (change .stage) (both-left (changeStageInRange (panel .k) (change .stage)) _ rest) (h .0)

@@ -19,7 +19,8 @@ use Rattle.record.specs.declared.CommandAnswer.the-variants.{Value, Unknown as 
 use Rattle.record.specs.declared.WriterWork.the-variants.{Changing}
 use Rattle.record.specs.Parts.{numberedPlace}
 use Rattle.slot_words.specs.Points.{validPoint}
-use Rattle.work_ranges.specs.WorkRanges.{alterationInRange, commandInRange, changeStageInRange, changeInRange, writerInRange}
+use Rattle.counting.specs.declared.steps.OperationKind.the-variants.{Change as Kind·Change}
+use Rattle.work_ranges.specs.WorkRanges.{stepsInRange, alterationInRange, commandInRange, changeStageInRange, changeInRange, writerInRange}
 use Rattle.record_ranges.specs.Ranges.{stationInRange}
 use Rattle.search.specs.declared.Searched.{Searched}
 use Rattle.search.specs.declared.Searched.the-variants.{Going, Answered}
@@ -51,7 +52,7 @@ stored-fits k point (Commanded command) answer valid h =
     (either-right (eqb (command .number) 0) (both (validPoint point) (leb (command .action) 2)) (both-true (validPoint point) (leb (command .action) 2) valid action)) in
     both-true _ _ last (both-true _ _ station (eq-eqb (numberedPlace 32 (command .station)) (numberedPlace 32 (command .station)) refl))
 
-module _ (k reach : ℕ) (change : Change) (valid : validPoint (change .point) ≡ true) (alters : alterationInRange (change .alteration) ≡ true) where
+module _ (k reach : ℕ) (change : Change) (valid : validPoint (change .point) ≡ true) (alters : alterationInRange (change .alteration) ≡ true) (made : stepsInRange Kind·Change k (change .steps) ≡ true) where
   abbrev place : ℕ
   place = numberedPlace 32 (commandingStation (change .alteration))
 
@@ -60,9 +61,9 @@ module _ (k reach : ℕ) (change : Change) (valid : validPoint (change .point) �
   unfolding changeAt goesOn writerInRange changeInRange updateInRange writerLeft
   at-stage left stage h less =
       record {
-        work-fits = both-true (validPoint (change .point)) (both (alterationInRange (change .alteration)) (changeStageInRange k stage)) valid (both-true (alterationInRange (change .alteration)) (changeStageInRange k stage) alters h);
+        work-fits = both-true (validPoint (change .point)) _ valid (both-true (alterationInRange (change .alteration)) _ alters (both-true (changeStageInRange k stage) _ h made));
         update-fits = refl;
-        ended = refl;
+        ended = λ steps. refl;
         less = less;
       }
 
@@ -71,21 +72,21 @@ module _ (k reach : ℕ) (change : Change) (valid : validPoint (change .point) �
   searched left (Going search) s = at-stage _ (Searching search) (s .fits) (omega (arith, s .less))
   searched left (Answered (SearchAnswer·Found place)) s = at-stage _ (ChangeStage·Found place) (s .fits) (omega (arith, s .less))
   searched left (Answered Unknown) s =
-      record { work-fits = refl; update-fits = stored-fits k (change .point) (change .alteration) _ valid alters; ended = refl; less = omega arith }
+      record { work-fits = refl; update-fits = stored-fits k (change .point) (change .alteration) _ valid alters; ended = λ steps. refl; less = omega arith }
 
   at-any-stage : (word : ℕ) (stage : ChangeStage) → reach ≤ k → changeStageInRange k stage ≡ true → OneEffect k reach place (changeLeft k stage) (changeStageAdvance reach change stage word)
   unfolding changeStageAdvance changeStageInRange changeLeft changeStores commandEnds ends writerInRange writerLeft
   at-any-stage word (Searching search) r h = searched _ _ (search-step k reach (change .point) search word r h)
   at-any-stage word (ChangeStage·Found place) r h =
-      record { work-fits = refl; update-fits = stored-fits k (change .point) (change .alteration) _ valid alters; ended = refl; less = omega arith }
+      record { work-fits = refl; update-fits = stored-fits k (change .point) (change .alteration) _ valid alters; ended = λ steps. refl; less = omega arith }
 
 pub change-effect : (k reach : ℕ) (change : Change) (word : ℕ) → reach ≤ k → changeInRange k change ≡ true → OneEffect k reach (numberedPlace 32 (commandingStation (change .alteration))) (writerLeft k reach (Changing change)) (changeAdvance reach change word)
 unfolding changeAdvance changeInRange writerLeft
 change-effect k reach change word r h =
-    let valid = both-left (validPoint (change .point)) (both (alterationInRange (change .alteration)) (changeStageInRange k (change .stage))) h in
-    let rest = both-right (validPoint (change .point)) (both (alterationInRange (change .alteration)) (changeStageInRange k (change .stage))) h in
-    at-any-stage k reach change valid (both-left (alterationInRange (change .alteration)) (changeStageInRange k (change .stage)) rest) word (change .stage) r
-    (both-right (alterationInRange (change .alteration)) (changeStageInRange k (change .stage)) rest)
+    let rest = both-right (validPoint (change .point)) _ h in
+    let stage = both-right (alterationInRange (change .alteration)) _ rest in
+    at-any-stage k reach change (both-left (validPoint (change .point)) _ h) (both-left (alterationInRange (change .alteration)) _ rest) (both-right (changeStageInRange k (change .stage)) _ stage) word (change .stage) r
+    (both-left (changeStageInRange k (change .stage)) _ stage)
 
 -- no step of a change stores the reach
 module _ (m reach : ℕ) (change : Change) (word : ℕ) where

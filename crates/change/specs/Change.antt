@@ -73,7 +73,8 @@ commandingStation (Commanded command) = command .station
 
 -- the change goes on at this stage
 unfoldable pub changeAt : Change → ChangeStage → WriterEffect
-changeAt change stage = goesOn (Changing (record { point = change .point; alteration = change .alteration; stage = stage }))
+changeAt change stage =
+    goesOn (Changing (record { point = change .point; alteration = change .alteration; stage = stage; steps = change .steps }))
 
 -- "found, store"; "else 7"
 unfoldable pub changeAnswered : Change → SearchAnswer → WriterEffect

@@ -99,6 +99,7 @@ fn change_at(change: Change, stage: ChangeStage) -> Effect
         point: change.point,
         alteration: alteration,
         stage: stage,
+        steps: change.steps,
     }))
 }
 

@@ -17,6 +17,8 @@ use Rattle.frame.specs.declared.Fields.{Fields}
 use Rattle.frame.specs.FieldMap.{hasBit, lengthOf, allowed}
 use Rattle.frame.specs.Frames.{fieldsIn, judged, readRefusal}
 use Rattle.command.specs.declared.Sent.{Sent}
+use Rattle.counting.specs.declared.steps.OperationKind.the-variants.{Change}
+use Rattle.work_ranges.proofs.CountedRanges.{none-made}
 use Rattle.command.specs.Command.{sentOf, sentIn, frameRefusal, commandedChange}
 
 -- a command in the ranges of its frame
@@ -73,4 +75,4 @@ change-in-range k sent valid =
     (both-true _ _
     (both-true _ _ (is-within 1 (sent .station) 32 (valid .station-low) (valid .station-high))
     (both-true _ _ (is-within 1 (sent .number) 16777215 (valid .number-low) (valid .number-high)) (le-leb (sent .action) 2 (valid .action-high))))
-    refl)
+    (both-true true _ refl (none-made Change k)))

@@ -15,7 +15,7 @@ use Rattle.record.specs.declared.WriterWork.{WriterWork}
 use Rattle.record.specs.declared.WriterWork.the-variants.{Changing}
 use Rattle.record.specs.Parts.{withWriter, stationOf}
 use Rattle.record_ranges.specs.Ranges.{inRange}
-use Rattle.answers.specs.Answers.{started, givenAgain, refused, storedAnswer, Outcome, outcome, unlessRefused}
+use Rattle.answers.specs.Answers.{completed, started, givenAgain, refused, storedAnswer, Outcome, outcome, unlessRefused}
 use Rattle.record.specs.Idle.{isWriterIdle}
 use Rattle.frame.specs.declared.Fields.{Fields}
 use Rattle.frame.specs.Frames.{fieldsIn, readRefusal}
@@ -46,6 +46,7 @@ commandedChange sent =
       point = sent .point;
       alteration = Commanded (record { station = sent .station; number = sent .number; action = sent .action });
       stage = Searching Unread;
+      steps = 0;
     })
 
 -- "the change starts", ".., 4"
@@ -53,11 +54,11 @@ unfoldable pub changeStarts : Record → List ℕ → Sent → Outcome
 changeStarts panel slots sent =
     unlessRefused (refuseIf (not (isWriterIdle (panel .writer .work))) 4 0) (outcome panel slots) (outcome (withWriter panel (commandedChange sent)) slots started)
 
--- "Number equal to the last, point and action the same: the stored answer is given again and nothing is altered. Number equal, point or action different: 12"
+-- "Number equal to the last, point and action the same: the stored answer is given again and nothing is altered. Number equal, point or action different: 12"; request N2: "A stored answer given again counts 0"
 unfoldable pub numberEqual : Record → List ℕ → Sent → Station → Outcome
 numberEqual panel slots sent last =
-    cond (both (eqb (sent .point) (last .point)) (eqb (sent .action) (last .action))) (outcome panel slots (givenAgain (storedAnswer (last .answer))))
-    (outcome panel slots (refused 12))
+    cond (both (eqb (sent .point) (last .point)) (eqb (sent .action) (last .action)))
+    (outcome panel slots (givenAgain (completed (storedAnswer (last .answer)) 0))) (outcome panel slots (refused 12))
 
 -- "Number = last + 1: the change starts"; "Any other number: 11"
 unfoldable pub numberOther : Record → List ℕ → Sent → Station → Outcome

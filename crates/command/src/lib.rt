@@ -85,6 +85,7 @@ fn with_change(panel: Record, sent: Sent) -> Record
         point: sent.point,
         alteration: Alteration::Commanded(command),
         stage: ChangeStage::Searching(Search::Unread),
+        steps: 0,
     };
     with_writer(panel, WriterWork::Changing(change))
 }
@@ -122,7 +123,10 @@ fn number_equal(panel: Record, sent: Sent, last: Station) -> EntryOutcome
         let stored = last.answer;
         return EntryOutcome {
             panel: panel,
-            answer: EntryAnswer::GivenAgain(stored),
+            answer: EntryAnswer::GivenAgain {
+                answer: stored,
+                steps: 0,
+            },
         };
     }
     refuse(panel, Refusal::Altered)

@@ -12,10 +12,12 @@ use Rattle.conditions.specs.Conditions.{both}
 use Rattle.conditions.proofs.ConditionLaws.{cond-holds}
 use Rattle.refusal.specs.Judging.{refuseIf}
 use Rattle.record.specs.declared.Record.{Record}
+use Rattle.record.specs.declared.Lookup.{Lookup}
 use Rattle.record.specs.declared.ReaderWork.{ReaderWork}
 use Rattle.record.specs.declared.ReaderWork.the-variants.{Idle, LookingUp, Walking}
 use Rattle.record.specs.Parts.{workOf, withWork, withReaders, withReach, withCounts, withStations, withWriter, withPlace, numberedPlace}
 use Rattle.record.specs.Idle.{isReaderIdle, isWriterIdle}
+use Rattle.counting.specs.Steps.{readerCounted, stepsOf}
 use Rattle.record_ranges.specs.Ranges.{inRange}
 use Rattle.record_ranges.proofs.Laws.{fields}
 use Rattle.answers.specs.declared.StepResult.{StepResult}
@@ -23,13 +25,13 @@ use Rattle.answers.proofs.AnswerLaws.{result-not-refused}
 use Rattle.answers.specs.Answers.{served, refused, isRefused, paperResult, Progress, continues, finishes, stepAnswer, Outcome, outcome, unlessRefused}
 use Rattle.search.specs.declared.Searched.{Searched}
 use Rattle.search.specs.declared.Searched.the-variants.{Going, Answered}
-use Rattle.reader_step.specs.Reader.{ReaderEffect, lookupEffect, lookupAdvance, walkAdvance, readerAdvance, workRefusal, stepRefusal, afterStep, readerRuns, stepJudged, stepReader}
+use Rattle.reader_step.specs.Reader.{ReaderEffect, lookupEffect, lookupAdvance, walkAdvance, readerAdvance, workRefusal, stepRefusal, workRuns, afterStep, readerRuns, stepJudged, stepReader}
 use Rattle.reader_step.proofs.StepWork.{judged-first}
 use Rattle.writer.specs.Step.{writerAccess, writerAdvance, afterStep as writer-afterStep, writerRuns, stepWriter}
 use Rattle.effects.specs.Memory.{slotStored, accessRead}
 use Rattle.writer.specs.Work.{stepStored}
 use Rattle.writer.proofs.StepInPlace.{step-in-place}
-use Rattle.writer.proofs.WriterLaws.{allowed}
+use Rattle.writer.proofs.WriterLaws.{countedWork, allowed}
 use Rattle.circle.specs.Circle.{nobody, partyAfter, firstAtWork, partyDue, isAtWork, partyServed}
 use Rattle.dispatcher.specs.Turn.{turnRefusal, partyStep, afterTurn, takeTurn}
 use Rattle.dispatcher.specs.TurnFacts.{LeavesAsStep}
@@ -58,33 +60,33 @@ module _ (panel : Record) (slots : List ℕ) (place : ℕ) where
   writer-placed fits = refl
 
 -- a step that is carried out is no refusal
-lookup-given : (point : ℕ) (after : Searched) → isRefused (lookupEffect point after .answer) ≡ false
+lookup-given : (lookup : Lookup) (after : Searched) → isRefused (lookupEffect lookup after .answer) ≡ false
 unfolding lookupEffect
-lookup-given point (Going search) = refl
-lookup-given point (Answered answer) = refl
+lookup-given lookup (Going search) = refl
+lookup-given lookup (Answered answer) = refl
 
 advance-given : (m reach : ℕ) (work : ReaderWork) (word : ℕ) → isRefused (readerAdvance m reach work word .answer) ≡ false
 unfolding readerAdvance lookupAdvance walkAdvance
 advance-given m reach Idle word = refl
-advance-given m reach (LookingUp lookup) word = lookup-given (lookup .point) _
+advance-given m reach (LookingUp lookup) word = lookup-given lookup _
 advance-given m reach (Walking walk) word = cond-holds (λ (e : ReaderEffect). isRefused (e .answer) ≡ false) (ltb (walk .next + 1) m) _ _ (λ more. refl) (λ last. refl)
 
-progress-given : (progress : Progress) → isRefused (stepAnswer progress) ≡ false
-progress-given continues = refl
-progress-given (finishes ending) = refl
+progress-given : (steps : ℕ) (progress : Progress) → isRefused (stepAnswer steps progress) ≡ false
+progress-given steps continues = refl
+progress-given steps (finishes ending) = refl
 
 -- of a record in range
 module _ (panel : Record) (slots : List ℕ) (fits : inRange (length slots) panel ≡ true) where
   reader-given : (reader : ℕ) → reader ≤ 15 → isReaderIdle (workOf panel reader) ≡ false → isRefused (stepReader panel slots reader .answer) ≡ false
-  unfolding stepReader stepRefusal workRefusal refuseIf unlessRefused readerRuns afterStep
-  reader-given reader low busy = rw (fits, le-ltb 15 reader low, busy) (advance-given (panel .m) (panel .reach) (workOf panel reader) _)
+  unfolding stepReader stepRefusal workRefusal refuseIf unlessRefused readerRuns afterStep workRuns
+  reader-given reader low busy = rw (fits, le-ltb 15 reader low, busy) (advance-given (panel .m) (panel .reach) (readerCounted (panel .k) (workOf panel reader)) _)
 
   writer-given : isWriterIdle (panel .writer .work) ≡ false → isRefused (stepWriter panel slots .answer) ≡ false
   unfolding writerRuns writer-afterStep
   writer-given busy =
-      let access = writerAccess panel (panel .writer .work) in
+      let access = writerAccess panel (countedWork panel) in
       ap (λ (o : Outcome). isRefused (o .answer)) (allowed panel slots fits busy)
-      ∙ progress-given (writerAdvance panel (panel .writer .work) (slotStored access) (accessRead slots access) .progress)
+      ∙ progress-given (stepsOf (countedWork panel)) (writerAdvance panel (countedWork panel) (slotStored access) (accessRead slots access) .progress)
 
   -- nobody is due only if nobody is at work
   all-idle : partyServed panel ≡ nobody → (party : ℕ) → party ≤ 16 → isAtWork panel party ≡ false

@@ -32,7 +32,8 @@ use Rattle.effects.specs.declared.memory.WriterAccess.{WriterAccess}
 use Rattle.effects.specs.declared.memory.WriterAccess.the-variants.{Read, StoreReach, StoreSlot}
 use Rattle.effects.specs.declared.update.Update.{Update}
 use Rattle.effects.specs.declared.update.Update.the-variants.{Nothing, Reach, Counted, Uncounted, Answered}
-use Rattle.effects.specs.Counts.{oneMore, oneLess, counted, uncounted}
+use Rattle.counting.specs.Counting.{oneMore}
+use Rattle.effects.specs.Counts.{oneLess, counted, uncounted}
 use Rattle.effects.specs.Effects.{WriterEffect, updated, reachAfter, countPlace, countAfter, stationAfter}
 use Rattle.record.specs.Idle.{isWriterIdle}
 
@@ -200,7 +201,7 @@ pub record OneEffect (k reach place left : ℕ) (effect : WriterEffect) : Type 0
   pub work-fits : writerInRange k (effect .work) ≡ true
   pub update-fits : updateInRange k place (effect .update) ≡ true
   -- "A step that ends an operation .. leaves that party idle", and only such a step does
-  pub ended : isUnderway (stepAnswer (effect .progress)) ≡ not (isWriterIdle (effect .work))
+  pub ended : (steps : ℕ) → isUnderway (stepAnswer steps (effect .progress)) ≡ not (isWriterIdle (effect .work))
   pub less : writerLeft k (reachAfter reach (effect .update)) (effect .work) + 1 ≤ left
 
 -- work that goes on has a step left

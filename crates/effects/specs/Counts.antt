@@ -1,14 +1,11 @@
 -- Document 01, "What the panel holds": the counts, "for each function index 1 to k, how many stored points use it (0 to m)".
-use Prim.Native.Nat.{ℕ, zero, suc, _+_, _-_, min}
+use Prim.Native.Nat.{ℕ, zero, suc, _-_}
 use mathlib.Core.Bool.{cond}
 use mathlib.Core.List.{List}
 use lib.Dec.{eqb}
 use Rattle.record.specs.declared.Record.{Record}
 use Rattle.record.specs.Parts.{countIn, countOf, withCount}
-
--- a count with one point more, not above m: "a count that would leave its range stays at its end"
-abbrev pub oneMore : ℕ → ℕ → ℕ
-oneMore m count = min (count + 1) m
+use Rattle.counting.specs.Counting.{oneMore}
 
 -- a count with one point less; a count of 0 stays
 abbrev pub oneLess : ℕ → ℕ

@@ -9,7 +9,8 @@ use Rattle.answers.specs.Answers.{Ending, Progress, continues, finishes, paperP
 use Rattle.effects.specs.declared.update.Effect.{Effect}
 use Rattle.effects.specs.declared.update.Update.{Update}
 use Rattle.effects.specs.declared.update.Update.the-variants.{Nothing, Reach, Counted, Uncounted, Answered}
-use Rattle.effects.specs.Counts.{oneMore, oneLess, counted, uncounted}
+use Rattle.counting.specs.Counting.{oneMore}
+use Rattle.effects.specs.Counts.{oneLess, counted, uncounted}
 
 -- the three
 pub record WriterEffect : Type 0 where

@@ -1,21 +1,12 @@
 // The counts of indices. A count stays in its range: on a record that no history leads to, one that
-// would leave it stays at its end.
+// would leave it stays at its end (`counting::one_more`, and `one_less` here).
 ghost use mathlib.Core.Path.{_≡_};
-ghost use Rattle.effects.specs.Counts.{oneMore, oneLess, counted, uncounted, largestCounted};
+ghost use Rattle.effects.specs.Counts.{oneLess, counted, uncounted, largestCounted};
+use counting::one_more;
 use record::Record;
 use record::parts::count_in;
 use record::parts::count_of;
 use record::parts::with_count;
-
-// A count with one point more.
-pub fn one_more(m: u32, count: u32) -> u32
-    ensures { λ r. ⌜ r ≡ oneMore m count ⌝ }
-{
-    if count < m {
-        return count + 1;
-    }
-    m
-}
 
 // A count with one point less.
 pub fn one_less(count: u32) -> u32

@@ -69,7 +69,7 @@ module _ (panel : Record) (slots : List ℕ) (rows : Rows) (put : Put) (agrees :
   -- a step that reads, and goes on at this stage
   on-stage : (read : ReadAccess) (stage : PutStage) → PutOK m k (panel .reach) slots rows q stage → StepOK panel slots (Read read) (putAt put stage) rows (putRow m k q (put .value) rows) (Putting put)
   unfolding slotsAfter putAt goesOn updated begun
-  on-stage read stage h = goes-on refl refl refl refl refl refl refl (record { agrees = agrees; work = (h, fits) })
+  on-stage read stage h = goes-on refl refl refl refl refl refl refl refl (record { agrees = agrees; work = (h, fits) })
 
   searched : (read : ReadAccess) (after : Searched) → Tight m k (panel .reach) rows → Knows (entryOf q rows ≡ absent) m k q rows after → StepOK panel slots (Read read) (putSearched put after) rows (putRow m k q (put .value) rows) (Putting put)
   unfolding putSearched putAnswered
@@ -141,7 +141,7 @@ module _ (panel : Record) (slots : List ℕ) (rows : Rows) (put : Put) (agrees :
   raises : (index : ℕ) → put .stage ≡ Chosen index → within 1 index k ≡ true → Below m q slots rows index → word-at index ≡ 0 → panel .reach < index → StepOK panel slots (StoreReach index) (record { work = Putting put; update = Reach index; progress = continues }) rows (putRow m k q (put .value) rows) (Putting put)
   unfolding slotsAfter updated withReach
   raises index e inside below empty more =
-      goes-on refl refl refl refl refl refl refl
+      goes-on refl refl refl refl refl refl refl refl
       (record {
         agrees = agrees-reached m k (panel .reach) (panel .counts) slots rows agrees index (within-high 1 index k inside) (λ q′ value place j f l. let h = agrees .held q′ value place f in omega (arith, lowest-one m k q′ place j (h .index) l (h .lowest), h .reached));
         work = (subst (λ (s : PutStage). PutOK m k index slots rows q s) (sym e) (below, empty, inr refl), fits);
@@ -210,5 +210,5 @@ module _ (panel : Record) (slots : List ℕ) (rows : Rows) (put : Put) (agrees :
 pub put-agrees : (panel : Record) (slots : List ℕ) (rows : Rows) (put : Put) → Agrees (panel .m) (panel .k) (panel .reach) (panel .counts) slots rows → putInRange (panel .k) put ≡ true → WorkOK (panel .m) (panel .k) (panel .reach) slots rows (Putting put) → StepOK panel slots (putAccess (panel .m) (panel .reach) put) (putAdvance (panel .k) (panel .reach) (slotStored (putAccess (panel .m) (panel .reach) put)) put (accessRead slots (putAccess (panel .m) (panel .reach) put))) rows (putRow (panel .m) (panel .k) (put .point) (put .value) rows) (Putting put)
 unfolding putAccess putAdvance putInRange
 put-agrees panel slots rows put agrees inside h =
-    at-stage panel slots rows put agrees (both-left (validPoint (put .point)) (putStageInRange (panel .k) (put .stage)) inside) (h .1) (put .stage) refl
-    (both-right (validPoint (put .point)) (putStageInRange (panel .k) (put .stage)) inside) (h .0)
+    at-stage panel slots rows put agrees (both-left (validPoint (put .point)) _ inside) (h .1) (put .stage) refl
+    (both-left (putStageInRange (panel .k) (put .stage)) _ (both-right (validPoint (put .point)) _ inside)) (h .0)

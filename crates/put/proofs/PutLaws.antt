@@ -16,7 +16,8 @@ use Rattle.record.specs.declared.PutStage.{PutStage}
 use Rattle.record.specs.declared.PutStage.the-variants.{Searching, Scanning, Found as PutStage·Found, Chosen}
 use Rattle.record.specs.declared.WriterWork.the-variants.{Putting}
 use Rattle.slot_words.specs.Points.{validPoint}
-use Rattle.work_ranges.specs.WorkRanges.{putStageInRange, putInRange, writerInRange}
+use Rattle.counting.specs.declared.steps.OperationKind.the-variants.{Put as Kind·Put}
+use Rattle.work_ranges.specs.WorkRanges.{stepsInRange, putStageInRange, putInRange, writerInRange}
 use Rattle.search.specs.declared.Searched.{Searched}
 use Rattle.search.specs.declared.Searched.the-variants.{Going, Answered}
 use Rattle.search.specs.declared.SearchAnswer.the-variants.{Found as SearchAnswer·Found, Unknown}
@@ -36,12 +37,12 @@ unfolding putSearchLeft searchLeft
 search-left k reach Unread = omega arith
 search-left k reach (Probing probe) = omega arith
 
-module _ (k reach place : ℕ) (put : Put) (low : 1 ≤ k) (valid : validPoint (put .point) ≡ true) where
+module _ (k reach place : ℕ) (put : Put) (low : 1 ≤ k) (valid : validPoint (put .point) ≡ true) (made : stepsInRange Kind·Put k (put .steps) ≡ true) where
   -- the put goes on at a stage in range with as many steps left
   at-stage : (left : ℕ) (stage : PutStage) → putStageInRange k stage ≡ true → putLeft k reach stage + 1 ≤ left → OneEffect k reach place left (putAt put stage)
   unfolding putAt goesOn writerInRange putInRange updateInRange writerLeft
   at-stage left stage h less =
-      record { work-fits = both-true (validPoint (put .point)) (putStageInRange k stage) valid h; update-fits = refl; ended = refl; less = less }
+      record { work-fits = both-true (validPoint (put .point)) _ valid (both-true (putStageInRange k stage) _ h made); update-fits = refl; ended = λ steps. refl; less = less }
 
   searched : (left : ℕ) (after : Searched) → OneStep k left after → OneEffect k reach place (left + (k + 1 + raising reach k)) (putSearched put after)
   unfolding putSearched putAnswered putStageInRange putLeft searchedInRange searchedLeft answerInRange
@@ -60,7 +61,7 @@ module _ (k reach place : ℕ) (put : Put) (low : 1 ≤ k) (valid : validPoint (
       go true below e = at-stage _ (Chosen index) h (omega (arith, raising-grows reach index k high))
       go false true e =
           let less = ltb-true index k e in at-stage _ (Scanning (index + 1)) (is-within 1 (index + 1) k (omega arith) (omega arith)) (omega arith)
-      go false false e = record { work-fits = refl; update-fits = refl; ended = refl; less = omega arith }
+      go false false e = record { work-fits = refl; update-fits = refl; ended = λ steps. refl; less = omega arith }
 
   takes : (slot index : ℕ) → within 1 index k ≡ true → put .stage ≡ Chosen index → OneEffect k reach place (1 + raising reach index) (putTakes reach slot put index)
   unfolding exceeds putTakes ends putInRange putStageInRange putLeft writerInRange updateInRange writerLeft raising
@@ -75,12 +76,12 @@ module _ (k reach place : ℕ) (put : Put) (low : 1 ≤ k) (valid : validPoint (
       go : (above : Bool) → ltb reach index ≡ above → OneEffect k reach place (1 + cond above 1 0) (cond above (record { work = Putting put; update = Reach index; progress = continues }) (ends (Counted index) (placed slot index)))
       go true f =
           record {
-            work-fits = both-true (validPoint (put .point)) (putStageInRange k (put .stage)) valid stage-fits;
+            work-fits = both-true (validPoint (put .point)) _ valid (both-true (putStageInRange k (put .stage)) _ stage-fits made);
             update-fits = le-leb index k high;
-            ended = refl;
+            ended = λ steps. refl;
             less = omega (arith, ap (putLeft k index) e, raising-low index index (omega arith));
           }
-      go false f = record { work-fits = refl; update-fits = h; ended = refl; less = omega arith }
+      go false f = record { work-fits = refl; update-fits = h; ended = λ steps. refl; less = omega arith }
 
   at-any-stage : (slot word : ℕ) (stage : PutStage) → reach ≤ k → put .stage ≡ stage → putStageInRange k stage ≡ true → OneEffect k reach place (putLeft k reach stage) (putStageAdvance k reach slot put stage word)
   unfolding putStageAdvance putStageInRange putLeft putSearchLeft searchAdvance ends writerInRange updateInRange writerLeft
@@ -89,14 +90,15 @@ module _ (k reach place : ℕ) (put : Put) (low : 1 ≤ k) (valid : validPoint (
       record { work-fits = one .work-fits; update-fits = one .update-fits; ended = one .ended; less = omega (arith, one .less, raising-high reach k r) }
   at-any-stage slot word (Searching (Probing probe)) r e h = searched _ _ (probe-step k (put .point) probe word h)
   at-any-stage slot word (Scanning index) r e h = scanned index word h
-  at-any-stage slot word (PutStage·Found place) r e h = record { work-fits = refl; update-fits = refl; ended = refl; less = omega arith }
+  at-any-stage slot word (PutStage·Found place) r e h = record { work-fits = refl; update-fits = refl; ended = λ steps. refl; less = omega arith }
   at-any-stage slot word (Chosen index) r e h = takes slot index h e
 
 pub put-effect : (k reach place slot : ℕ) (put : Put) (word : ℕ) → 1 ≤ k → reach ≤ k → putInRange k put ≡ true → OneEffect k reach place (writerLeft k reach (Putting put)) (putAdvance k reach slot put word)
 unfolding putAdvance putInRange writerLeft
 put-effect k reach place slot put word low r h =
-    let valid = both-left (validPoint (put .point)) (putStageInRange k (put .stage)) h in
-    at-any-stage k reach place put low valid slot word (put .stage) r refl (both-right (validPoint (put .point)) (putStageInRange k (put .stage)) h)
+    let rest = both-right (validPoint (put .point)) _ h in
+    at-any-stage k reach place put low (both-left (validPoint (put .point)) _ h) (both-right (putStageInRange k (put .stage)) _ rest) slot word (put .stage) r refl
+    (both-left (putStageInRange k (put .stage)) _ rest)
 
 -- the step whose access stores the reach, and no other, updates the reach
 module _ (m k reach slot : ℕ) (put : Put) (word : ℕ) where

@@ -39,7 +39,7 @@ putAccess m reach put = putStageAccess m reach put (put .stage)
 
 -- the put goes on at this stage
 unfoldable pub putAt : Put → PutStage → WriterEffect
-putAt put stage = goesOn (Putting (record { point = put .point; value = put .value; stage = stage }))
+putAt put stage = goesOn (Putting (record { point = put .point; value = put .value; stage = stage; steps = put .steps }))
 
 -- "If found, store the new word there. If not, read positions 1 to k"
 unfoldable pub putAnswered : Put → SearchAnswer → WriterEffect

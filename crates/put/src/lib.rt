@@ -74,6 +74,7 @@ fn put_at(put: Put, stage: PutStage) -> Effect
         point: put.point,
         value: put.value,
         stage: stage,
+        steps: put.steps,
     }))
 }
 

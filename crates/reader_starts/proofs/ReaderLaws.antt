@@ -13,21 +13,25 @@ use Rattle.refusal.proofs.Laws.{not-refused}
 use Rattle.record.specs.declared.Record.{Record}
 use Rattle.record.specs.declared.Search.{Search}
 use Rattle.record.specs.declared.Search.the-variants.{Unread, Probing}
+use Rattle.record.specs.declared.Lookup.{Lookup}
 use Rattle.record.specs.declared.Walk.{Walk}
 use Rattle.record.specs.declared.ReaderWork.{ReaderWork}
 use Rattle.record.specs.declared.ReaderWork.the-variants.{Idle, LookingUp, Walking}
 use Rattle.record.specs.Parts.{workOf, withWork, withReaders}
 use Rattle.record.proofs.WorkLaws.{others-stay}
 use Rattle.slot_words.specs.Points.{validPoint}
-use Rattle.work_ranges.specs.WorkRanges.{searchInRange, lookupInRange, workInRange}
+use Rattle.counting.specs.declared.steps.OperationKind.the-variants.{Lookup as Kind·Lookup}
+use Rattle.counting.specs.Steps.{stepBound, lookupCounted, readerCounted}
+use Rattle.work_ranges.specs.WorkRanges.{searchInRange, stepsInRange, lookupInRange, workInRange}
+use Rattle.work_ranges.proofs.CountedRanges.{none-made, reader-counted-fits}
 use Rattle.record_ranges.specs.Ranges.{inRange}
 use Rattle.record_ranges.proofs.Laws.{fields, sizes-in-range, work-in-range, with-work-in-range}
 use Rattle.search.specs.declared.access.ReadAccess.the-variants.{Slot}
 use Rattle.search.specs.declared.Searched.{Searched}
 use Rattle.search.specs.declared.Searched.the-variants.{Going, Answered}
 use Rattle.answers.specs.Answers.{Answer, started, Outcome, outcome}
-use Rattle.reader_step.specs.Reader.{readerAccess, ReaderEffect, lookupEffect, lookupAdvance, walkAdvance, readerAdvance, afterStep, readerRuns, stepRefusal, stepReader}
-use Rattle.reader_starts.specs.Starts.{lookupRefusal, lookupWorkRefusal, startReader, startLookup, startWalk}
+use Rattle.reader_step.specs.Reader.{readerAccess, ReaderEffect, lookupEffect, lookupAdvance, walkAdvance, readerAdvance, workRuns, afterStep, readerRuns, stepRefusal, stepReader}
+use Rattle.reader_starts.specs.Starts.{newLookup, newWalk, lookupRefusal, lookupWorkRefusal, startReader, startLookup, startWalk}
 use Rattle.reader_starts.specs.ReaderFacts.{OnlyWorkOf, Met, workAfter, ReachWithin, at-end, at-step}
 use Rattle.answers.proofs.AnswerLaws.{unless}
 use Rattle.search.proofs.SearchLaws.{searchLeft, searchedLeft, searchedInRange, OneStep, search-step, slotRead, search-inside}
@@ -89,10 +93,11 @@ pub record OneLess (m k left : ℕ) (work : ReaderWork) : Type 0 where
   pub in-range : workInRange m k work ≡ true
   pub less : stepsLeft m k work ≤ left - 1
 
-lookup-effect : (m k point left : ℕ) (after : Searched) → validPoint point ≡ true → OneStep k left after → OneLess m k left (lookupEffect point after .work)
+lookup-effect : (m k left : ℕ) (lookup : Lookup) (after : Searched) → validPoint (lookup .point) ≡ true → stepsInRange Kind·Lookup k (lookup .steps) ≡ true → OneStep k left after → OneLess m k left (lookupEffect lookup after .work)
 unfolding lookupEffect workInRange lookupInRange searchedInRange searchedLeft stepsLeft
-lookup-effect m k point left (Going search) h s = record { in-range = both-true (validPoint point) (searchInRange k search) h (s .fits); less = omega (arith, s .less) }
-lookup-effect m k point left (Answered answer) h s = record { in-range = refl; less = omega arith }
+lookup-effect m k left lookup (Going search) h made s =
+    record { in-range = both-true (validPoint (lookup .point)) _ h (both-true (searchInRange k search) _ (s .fits) made); less = omega (arith, s .less) }
+lookup-effect m k left lookup (Answered answer) h made s = record { in-range = refl; less = omega arith }
 
 walk-effect : (m k : ℕ) (walk : Walk) (word : ℕ) → OneLess m k (m - walk .next) (walkAdvance m walk word .work)
 unfolding walkAdvance workInRange stepsLeft
@@ -105,22 +110,40 @@ pub advances : (m k reach : ℕ) (work : ReaderWork) (word : ℕ) → reach ≤ 
 unfolding readerAdvance lookupAdvance workInRange lookupInRange stepsLeft
 advances m k reach Idle word h e = record { in-range = refl; less = omega arith }
 advances m k reach (LookingUp lookup) word h e =
-    let valid = both-left (validPoint (lookup .point)) (searchInRange k (lookup .search)) e in
-    let probed = both-right (validPoint (lookup .point)) (searchInRange k (lookup .search)) e in
-    lookup-effect m k (lookup .point) _ _ valid (search-step k reach (lookup .point) (lookup .search) word h probed)
+    let rest = both-right (validPoint (lookup .point)) _ e in
+    lookup-effect m k _ lookup _ (both-left (validPoint (lookup .point)) _ e) (both-right (searchInRange k (lookup .search)) _ rest)
+    (search-step k reach (lookup .point) (lookup .search) word h (both-left (searchInRange k (lookup .search)) _ rest))
 advances m k reach (Walking walk) word h e = walk-effect m k walk word
+
+-- counting a step leaves how many are left
+counted-left : (m k : ℕ) (work : ReaderWork) → stepsLeft m k (readerCounted k work) ≡ stepsLeft m k work
+unfolding stepsLeft readerCounted lookupCounted
+counted-left m k Idle = refl
+counted-left m k (LookingUp lookup) = refl
+counted-left m k (Walking walk) = refl
+
+-- a step: counted, then made
+pub steps-on : (m k reach : ℕ) (work : ReaderWork) (word : ℕ) → k ≤ 64 → reach ≤ k → workInRange m k work ≡ true → OneLess m k (stepsLeft m k work) (readerAdvance m reach (readerCounted k work) word .work)
+steps-on m k reach work word few h e =
+    let one = advances m k reach (readerCounted k work) word h (reader-counted-fits m k work few e) in
+    record { in-range = one .in-range; less = omega (arith, one .less, counted-left m k work) }
+
+-- a lookup of a valid point that has read nothing yet is in range
+begun-fits : (k point : ℕ) → validPoint point ≡ true → lookupInRange k (record { point = point; search = Unread; steps = 0 }) ≡ true
+unfolding lookupInRange searchInRange
+begun-fits k point valid = both-true (validPoint point) _ valid (both-true true _ refl (none-made Kind·Lookup k))
 
 module _ (panel : Record) (slots : List ℕ) (reader : ℕ) (fits : inRange (length slots) panel ≡ true) where
   kept : Outcome → Type 0
   kept after = inRange (length slots) (after .panel) ≡ true
 
   pub step-in-range : inRange (length slots) (stepReader panel slots reader .panel) ≡ true
-  unfolding stepReader readerRuns afterStep kept
+  unfolding stepReader readerRuns afterStep workRuns kept
   step-in-range =
       unless kept (stepRefusal (length slots) panel reader) (outcome panel slots) _ (λ answer. fits)
       (λ e.
       with-work-in-range (length slots) panel fits reader _
-      (advances (panel .m) (panel .k) (panel .reach) (workOf panel reader) _ (fields (length slots) panel fits .reach-fits)
+      (steps-on (panel .m) (panel .k) (panel .reach) (workOf panel reader) _ (sizes-in-range (length slots) panel fits .k-high) (fields (length slots) panel fits .reach-fits)
       (work-in-range (length slots) panel reader fits) .in-range))
 
   start-in-range : (n : ℕ) (work : ReaderWork) → (n ≡ 0 → workInRange (panel .m) (panel .k) work ≡ true) → inRange (length slots) (startReader n panel slots reader work .panel) ≡ true
@@ -128,14 +151,14 @@ module _ (panel : Record) (slots : List ℕ) (reader : ℕ) (fits : inRange (len
   start-in-range n work h = unless kept n (outcome panel slots) _ (λ answer. fits) (λ e. with-work-in-range (length slots) panel fits reader work (h e))
 
   pub lookup-start-in-range : (point : ℕ) → inRange (length slots) (startLookup panel slots reader point .panel) ≡ true
-  unfolding startLookup lookupRefusal lookupWorkRefusal workInRange lookupInRange searchInRange
+  unfolding startLookup lookupRefusal lookupWorkRefusal workInRange
   lookup-start-in-range point =
       start-in-range _ _
       (λ e.
       let after-1 = not-refused (not (inRange (length slots) panel)) 1 _ (omega arith) e in
       let after-3 = not-refused (ltb 15 reader) 3 _ (omega arith) (after-1 .1) in
       let after-2 = not-refused (not (validPoint point)) 2 _ (omega arith) (after-3 .1) in
-      both-true (validPoint point) true (not-false (validPoint point) (after-2 .0)) refl)
+      begun-fits (panel .k) point (not-false (validPoint point) (after-2 .0)))
 
   pub walk-start-in-range : inRange (length slots) (startWalk panel slots reader .panel) ≡ true
   unfolding startWalk workInRange
@@ -152,45 +175,45 @@ none-left m k (LookingUp lookup) e h = absurd (go (lookup .search) h)
 none-left m k (Walking walk) e h = absurd (omega (arith, ltb-true (walk .next) m e))
 
 -- work in range is done after as many steps as it has left
-pub work-ends : (m k : ℕ) (work : ReaderWork) (met : List Met) → workInRange m k work ≡ true → ReachWithin k met → stepsLeft m k work ≤ length met → workAfter m work met ≡ Idle
+pub work-ends : (m k : ℕ) (work : ReaderWork) (met : List Met) → k ≤ 64 → workInRange m k work ≡ true → ReachWithin k met → stepsLeft m k work ≤ length met → workAfter m k work met ≡ Idle
 unfolding workAfter
-work-ends m k work [] e at-end h = none-left m k work e h
-work-ends m k work (now ∷ rest) e (at-step r rs) h =
-    let after = advances m k (now .reach) work (now .word) r e in
-    work-ends m k (readerAdvance m (now .reach) work (now .word) .work) rest (after .in-range) rs (omega (arith, after .less))
+work-ends m k work [] few e at-end h = none-left m k work e h
+work-ends m k work (now ∷ rest) few e (at-step r rs) h =
+    let after = steps-on m k (now .reach) work (now .word) few r e in
+    work-ends m k _ rest few (after .in-range) rs (omega (arith, after .less))
 
 -- "read the reach r; then positions 1 to r": at most k + 1 steps
-pub lookup-ends : (m k point : ℕ) (met : List Met) → validPoint point ≡ true → ReachWithin k met → length met ≡ k + 1 → workAfter m (LookingUp (record { point = point; search = Unread })) met ≡ Idle
-unfolding workInRange lookupInRange searchInRange stepsLeft searchLeft
-lookup-ends m k point met e r h = work-ends m k _ met (both-true (validPoint point) true e refl) r (omega arith)
+pub lookup-ends : (m k point : ℕ) (met : List Met) → k ≤ 64 → validPoint point ≡ true → ReachWithin k met → length met ≡ stepBound Kind·Lookup k → workAfter m k (newLookup point) met ≡ Idle
+unfolding workInRange stepsLeft searchLeft
+lookup-ends m k point met few e r h = work-ends m k _ met few (begun-fits k point e) r (omega arith)
 
-walk-goes-on : (m i : ℕ) (met : List Met) → i + length met < m → workAfter m (Walking (record { next = i })) met ≡ Walking (record { next = i + length met })
-unfolding workAfter readerAdvance walkAdvance
-walk-goes-on m i [] h = ap (λ (n : ℕ). Walking (record { next = n })) (omega arith)
-walk-goes-on m i (now ∷ rest) h =
+walk-goes-on : (m k i : ℕ) (met : List Met) → i + length met < m → workAfter m k (Walking (record { next = i })) met ≡ Walking (record { next = i + length met })
+unfolding workAfter readerAdvance walkAdvance readerCounted
+walk-goes-on m k i [] h = ap (λ (n : ℕ). Walking (record { next = n })) (omega arith)
+walk-goes-on m k i (now ∷ rest) h =
     rw (lt-ltb (i + 1) m (omega arith))
-    (walk-goes-on m (i + 1) rest (omega arith) ∙ ap (λ (n : ℕ). Walking (record { next = n })) (omega arith))
+    (walk-goes-on m k (i + 1) rest (omega arith) ∙ ap (λ (n : ℕ). Walking (record { next = n })) (omega arith))
 
-idle-stays : (m : ℕ) (met : List Met) → workAfter m Idle met ≡ Idle
-unfolding workAfter readerAdvance
-idle-stays m [] = refl
-idle-stays m (now ∷ rest) = idle-stays m rest
+idle-stays : (m k : ℕ) (met : List Met) → workAfter m k Idle met ≡ Idle
+unfolding workAfter readerAdvance readerCounted
+idle-stays m k [] = refl
+idle-stays m k (now ∷ rest) = idle-stays m k rest
 
-walk-ends : (m i : ℕ) (met : List Met) → 1 ≤ length met → i + length met ≡ m → workAfter m (Walking (record { next = i })) met ≡ Idle
-unfolding workAfter readerAdvance walkAdvance
-walk-ends m i [] h e = absurd (omega arith)
-walk-ends m i (now ∷ rest) h e =
-    cond-holds (λ (effect : ReaderEffect). workAfter m (effect .work) rest ≡ Idle) (ltb (i + 1) m) _ _
-    (λ more. let below = ltb-true (i + 1) m more in walk-ends m (i + 1) rest (omega arith) (omega arith))
-    (λ last. idle-stays m rest)
+walk-ends : (m k i : ℕ) (met : List Met) → 1 ≤ length met → i + length met ≡ m → workAfter m k (Walking (record { next = i })) met ≡ Idle
+unfolding workAfter readerAdvance walkAdvance readerCounted
+walk-ends m k i [] h e = absurd (omega arith)
+walk-ends m k i (now ∷ rest) h e =
+    cond-holds (λ (effect : ReaderEffect). workAfter m k (effect .work) rest ≡ Idle) (ltb (i + 1) m) _ _
+    (λ more. let below = ltb-true (i + 1) m more in walk-ends m k (i + 1) rest (omega arith) (omega arith))
+    (λ last. idle-stays m k rest)
 
 -- "slots 0 to m − 1, one a step, m steps": after fewer the walk is at the slot of that number
-pub walk-underway : (m : ℕ) (met : List Met) → length met < m → workAfter m (Walking (record { next = 0 })) met ≡ Walking (record { next = length met })
-walk-underway m met h = walk-goes-on m 0 met (omega arith) ∙ ap (λ (n : ℕ). Walking (record { next = n })) (omega arith)
+pub walk-underway : (m k : ℕ) (met : List Met) → length met < m → workAfter m k newWalk met ≡ Walking (record { next = length met })
+walk-underway m k met h = walk-goes-on m k 0 met (omega arith) ∙ ap (λ (n : ℕ). Walking (record { next = n })) (omega arith)
 
 -- and the m-th ends it
-pub walk-ended : (m : ℕ) (met : List Met) → 1 ≤ m → length met ≡ m → workAfter m (Walking (record { next = 0 })) met ≡ Idle
-walk-ended m met h e = walk-ends m 0 met (omega arith) (omega arith)
+pub walk-ended : (m k : ℕ) (met : List Met) → 1 ≤ m → length met ≡ m → workAfter m k newWalk met ≡ Idle
+walk-ended m k met h e = walk-ends m k 0 met (omega arith) (omega arith)
 
 work-inside : (m k : ℕ) (work : ReaderWork) → 1 ≤ m → workInRange m k work ≡ true → slotRead (readerAccess m work) < m
 unfolding slotRead readerAccess workInRange

@@ -7,6 +7,7 @@ use Rattle.record.specs.declared.Record.{Record}
 use Rattle.record.specs.declared.ReaderWork.{ReaderWork}
 use Rattle.record.specs.Parts.{workOf}
 use Rattle.answers.specs.Answers.{Outcome}
+use Rattle.counting.specs.Steps.{readerCounted}
 use Rattle.reader_step.specs.Reader.{readerAdvance}
 
 -- nothing but one reader's work has changed: not the slots, nor any other part of the record
@@ -27,9 +28,9 @@ pub record Met : Type 0 where
   pub word : ℕ
 
 -- a reader's work after as many of its own steps
-unfoldable pub workAfter : ℕ → ReaderWork → List Met → ReaderWork
-workAfter m work [] = work
-workAfter m work (met ∷ rest) = workAfter m (readerAdvance m (met .reach) work (met .word) .work) rest
+unfoldable pub workAfter : ℕ → ℕ → ReaderWork → List Met → ReaderWork
+workAfter m k work [] = work
+workAfter m k work (met ∷ rest) = workAfter m k (readerAdvance m (met .reach) (readerCounted k work) (met .word) .work) rest
 
 -- the reach is 0 to k at each of the steps
 pub data ReachWithin (k : ℕ) : List Met → Type 0 where

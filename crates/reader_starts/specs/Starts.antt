@@ -37,7 +37,7 @@ walkRefusal lent panel reader = walkWorkRefusal (inRange lent panel) reader (wor
 
 -- a lookup of a point that has read nothing yet
 abbrev pub newLookup : ℕ → ReaderWork
-newLookup point = LookingUp (record { point = point; search = Unread })
+newLookup point = LookingUp (record { point = point; search = Unread; steps = 0 })
 
 -- a walk that has read nothing yet
 abbrev pub newWalk : ReaderWork

@@ -95,6 +95,7 @@ pub fn lookup_started(fits: bool, reader: u32, found: Reader, point: u32) -> Sta
     let new = ReaderWork::LookingUp(Lookup {
         point: point,
         search: Search::Unread,
+        steps: 0,
     });
     given_work(judged, found, new)
 }

@@ -13,8 +13,8 @@ use Rattle.record.specs.Idle.{isReaderIdle}
 use Rattle.record.proofs.WorkLaws.{same-work, reader-place-known}
 use Rattle.record_ranges.specs.Ranges.{inRange}
 use Rattle.answers.specs.Answers.{Outcome, outcome, refused, unlessRefused}
-use Rattle.reader_step.specs.Reader.{ReaderEffect, effectOf, readerAccess, readerAdvance, workRefusal, stepRefusal, stepWork, afterStep, readerRuns, stepJudged, stepReader}
-use Rattle.search.specs.Access.{wordRead}
+use Rattle.counting.specs.Steps.{readerCounted}
+use Rattle.reader_step.specs.Reader.{ReaderEffect, effectOf, workRefusal, stepRefusal, workRuns, stepWork, afterStep, readerRuns, stepJudged, stepReader}
 
 module _ (panel : Record) (slots : List ℕ) (reader : ℕ) where
   -- a refused call leaves the work, and so the record
@@ -23,7 +23,7 @@ module _ (panel : Record) (slots : List ℕ) (reader : ℕ) where
   by-work zero effect = refl
   by-work (suc n) effect = ap (λ (p : Record). outcome p slots (refused (suc n))) (same-work panel reader (workOf panel reader) refl)
 
-  pub step-by-work : (fits : Bool) → afterStep panel slots reader (stepWork fits reader (panel .m) (panel .reach) (workOf panel reader) slots) ≡ stepJudged fits panel slots reader
+  pub step-by-work : (fits : Bool) → afterStep panel slots reader (stepWork fits reader (panel .m) (panel .k) (panel .reach) (workOf panel reader) slots) ≡ stepJudged fits panel slots reader
   unfolding stepWork stepJudged readerRuns
   step-by-work fits = by-work _ _
 
@@ -58,10 +58,10 @@ module _ (panel : Record) (slots : List ℕ) (reader : ℕ) (later : ReaderWork 
 
 pub step-in-place :
     (panel : Record) (slots : List ℕ) (reader : ℕ)
-    → let e = stepWork (inRange (length slots) panel) reader (panel .m) (panel .reach) (getD (panel .readers) (readerPlace reader) idleReader .work) slots in
+    → let e = stepWork (inRange (length slots) panel) reader (panel .m) (panel .k) (panel .reach) (getD (panel .readers) (readerPlace reader) idleReader .work) slots in
     outcome (withReaders panel (set (panel .readers) (readerPlace reader) (readerWith (e .work)))) slots (e .answer) ≡ stepReader panel slots reader
 unfolding stepWork stepReader stepRefusal workRefusal readerRuns
 step-in-place panel slots reader =
     in-place panel slots reader (λ (work : ReaderWork). refuseIf (isReaderIdle work) 5 0)
-    (λ (work : ReaderWork). readerAdvance (panel .m) (panel .reach) work (wordRead slots (readerAccess (panel .m) work)))
+    (λ (work : ReaderWork). workRuns (panel .m) (panel .reach) (readerCounted (panel .k) work) slots)
     (inRange (length slots) panel)

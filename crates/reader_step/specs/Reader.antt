@@ -1,4 +1,4 @@
--- Document 01, "Steps": a reader's step of a lookup or of a walk.
+-- Document 01, "Steps", and request N2: a reader's step of a lookup or of a walk.
 use Prim.Native.Nat.{ℕ, _+_}
 use mathlib.Core.Bool.{Bool, cond, not}
 use mathlib.Core.List.{List}
@@ -21,7 +21,8 @@ use Rattle.search.specs.declared.SearchAnswer.{SearchAnswer}
 use Rattle.search.specs.declared.SearchAnswer.the-variants.{Found, Unknown}
 use Rattle.reader_step.specs.declared.Effect.{Effect}
 use Rattle.reader_step.specs.declared.SteppedReader.{SteppedReader}
-use Rattle.answers.specs.Answers.{Ending, lookedUp, endedWith, Answer, underway, ended, walked, walkedLast, Outcome, outcome, unlessRefused, paperResult, paperStep}
+use Rattle.counting.specs.Steps.{readerCounted}
+use Rattle.answers.specs.Answers.{Ending, lookedUp, endedWith, completed, Answer, underway, ended, walked, walkedLast, Outcome, outcome, unlessRefused, paperResult, paperStep}
 use Rattle.search.specs.Access.{wordRead}
 use Rattle.search.specs.Search.{searchAccess, searchAdvance}
 
@@ -53,14 +54,15 @@ unfoldable pub lookupEnding : SearchAnswer → Ending
 lookupEnding (Found place) = lookedUp (place .value)
 lookupEnding Unknown = endedWith 7
 
--- a lookup goes on, or ends
-unfoldable pub lookupEffect : ℕ → Searched → ReaderEffect
-lookupEffect point (Going search) = record { work = LookingUp (record { point = point; search = search }); answer = underway }
-lookupEffect point (Answered answer) = record { work = Idle; answer = ended (lookupEnding answer) }
+-- a lookup goes on, or ends with the steps counted so far
+unfoldable pub lookupEffect : Lookup → Searched → ReaderEffect
+lookupEffect lookup (Going search) =
+    record { work = LookingUp (record { point = lookup .point; search = search; steps = lookup .steps }); answer = underway }
+lookupEffect lookup (Answered answer) = record { work = Idle; answer = ended (completed (lookupEnding answer) (lookup .steps)) }
 
 -- part 3 of a lookup's step
 unfoldable pub lookupAdvance : ℕ → Lookup → ℕ → ReaderEffect
-lookupAdvance reach lookup word = lookupEffect (lookup .point) (searchAdvance reach (lookup .point) (lookup .search) word)
+lookupAdvance reach lookup word = lookupEffect lookup (searchAdvance reach (lookup .point) (lookup .search) word)
 
 -- part 3 of a walk's step: "each walk step gives the word read, and the m-th also ends the walk"
 unfoldable pub walkAdvance : ℕ → Walk → ℕ → ReaderEffect
@@ -82,19 +84,23 @@ workRefusal fits reader work = refuseIf (not fits) 1 (refuseIf (ltb 15 reader) 3
 unfoldable pub stepRefusal : ℕ → Record → ℕ → ℕ
 stepRefusal lent panel reader = workRefusal (inRange lent panel) reader (workOf panel reader)
 
--- a reader's step by what it needs: whether the record is in range, m, the reach, the reader's work and the slots
-unfoldable pub stepWork : Bool → ℕ → ℕ → ℕ → ReaderWork → List ℕ → ReaderEffect
-stepWork fits reader m reach work slots =
-    unlessRefused (workRefusal fits reader work) (effectOf work) (readerAdvance m reach work (wordRead slots (readerAccess m work)))
+-- the three parts of the step of a reader whose work counts it
+unfoldable pub workRuns : ℕ → ℕ → ReaderWork → List ℕ → ReaderEffect
+workRuns m reach work slots = readerAdvance m reach work (wordRead slots (readerAccess m work))
+
+-- a reader's step by what it needs: whether the record is in range, m, k, the reach, the reader's work and the slots; the step is counted, then made
+unfoldable pub stepWork : Bool → ℕ → ℕ → ℕ → ℕ → ReaderWork → List ℕ → ReaderEffect
+stepWork fits reader m k reach work slots =
+    unlessRefused (workRefusal fits reader work) (effectOf work) (workRuns m reach (readerCounted k work) slots)
 
 -- the reader's new work in its place, and the answer
 unfoldable pub afterStep : Record → List ℕ → ℕ → ReaderEffect → Outcome
 afterStep panel slots reader effect = outcome (withWork panel reader (effect .work)) slots (effect .answer)
 
--- the three parts of the step of a reader with this work
+-- the step of a reader with this work: "gives the number of steps it took", so it is counted, then made
 unfoldable pub readerRuns : Record → List ℕ → ℕ → ReaderWork → Outcome
 readerRuns panel slots reader work =
-    afterStep panel slots reader (readerAdvance (panel .m) (panel .reach) work (wordRead slots (readerAccess (panel .m) work)))
+    afterStep panel slots reader (workRuns (panel .m) (panel .reach) (readerCounted (panel .k) work) slots)
 
 -- a reader's step, by whether the record is in range
 unfoldable pub stepJudged : Bool → Record → List ℕ → ℕ → Outcome

@@ -1,13 +1,15 @@
-// A reader's step. It makes one access, in three parts: which access comes next (pure), the access, and
-// what follows from the word (pure).
+// A reader's step. It is counted, and makes one access, in three parts: which access comes next (pure), the
+// access, and what follows from the word (pure).
 ghost use mathlib.Core.Path.{_≡_};
 ghost use Rattle.refusal.specs.Refusals.{paperJudged};
 ghost use Rattle.answers.specs.Answers.{paperEnding, paperStep, outcome};
-ghost use Rattle.reader_step.specs.Reader.{readerAccess, paperEffect, paperStepped, lookupEnding, lookupAdvance, walkAdvance, readerAdvance, workRefusal, stepWork, stepJudged, stepReader};
+ghost use Rattle.reader_step.specs.Reader.{readerAccess, paperEffect, paperStepped, lookupEnding, lookupAdvance, walkAdvance, readerAdvance, workRefusal, workRuns, stepWork, stepJudged, stepReader};
+use answers::Completion;
 use answers::Ending;
 use answers::StepAnswer;
 use answers::StepOutcome;
 use answers::StepResult;
+use counting::steps::reader_counted;
 use record::Lookup;
 use record::Reader;
 use record::ReaderWork;
@@ -76,12 +78,16 @@ fn lookup_advance(lookup: Lookup, reach: u32, word: u64) -> Effect
             work: ReaderWork::LookingUp(Lookup {
                 point: lookup.point,
                 search: next,
+                steps: lookup.steps,
             }),
             result: StepResult::Underway,
         },
         Searched::Answered(answer) => Effect {
             work: ReaderWork::Idle,
-            result: StepResult::Ended(lookup_ending(answer)),
+            result: StepResult::Ended(Completion {
+                ending: lookup_ending(answer),
+                steps: lookup.steps,
+            }),
         },
     }
 }
@@ -126,6 +132,14 @@ fn stepped(effect: Effect) -> SteppedReader
     }
 }
 
+// The three parts of the step of a reader whose work counts it.
+fn run_step(work: ReaderWork, m: u32, reach: u32, slots: &[u64]) -> Effect
+    ensures { λ r. ⌜ paperEffect r ≡ workRuns m reach work (now (slots .entry)) ⌝ }
+{
+    let word = word_read(slots, reader_access(work, m));
+    reader_advance(work, m, reach, word)
+}
+
 // Document 01's order: 1, 3, 5.
 fn judge_step(fits: bool, reader: u32, work: ReaderWork) -> Judged
     ensures { λ r. ⌜ paperJudged r ≡ workRefusal fits reader work ⌝ }
@@ -143,16 +157,17 @@ fn judge_step(fits: bool, reader: u32, work: ReaderWork) -> Judged
 }
 
 // The next step of a reader's lookup or walk, by what it needs of the record: whether the record is in
-// range, the reader as found there, m and the reach. A step that is refused leaves the reader as it is.
+// range, the reader as found there, m, k and the reach. A step that is refused leaves the reader as it is.
 pub fn step_work(
     fits: bool,
     reader: u32,
     found: Reader,
     m: u32,
+    k: u32,
     reach: u32,
     slots: &[u64],
 ) -> SteppedReader
-    ensures { λ r. ⌜ paperStepped r ≡ stepWork fits reader m reach (found .work) (now (slots .entry)) ⌝ }
+    ensures { λ r. ⌜ paperStepped r ≡ stepWork fits reader m k reach (found .work) (now (slots .entry)) ⌝ }
 {
     let work = found.work;
     match judge_step(fits, reader, work) {
@@ -160,10 +175,7 @@ pub fn step_work(
             reader: found,
             answer: StepAnswer::Refused(refusal),
         },
-        Judged::Allowed => {
-            let word = word_read(slots, reader_access(work, m));
-            stepped(reader_advance(work, m, reach, word))
-        }
+        Judged::Allowed => stepped(run_step(reader_counted(work, k), m, reach, slots)),
     }
 }
 
@@ -174,7 +186,15 @@ pub fn step_judged(fits: bool, panel: Record, slots: &[u64], reader: u32) -> Ste
     let found = Reader {
         work: work_of(panel, reader),
     };
-    let next = step_work(fits, reader, found, panel.m, panel.reach, slots);
+    let next = step_work(
+        fits,
+        reader,
+        found,
+        panel.m,
+        panel.k,
+        panel.reach,
+        slots,
+    );
     let after = next.reader;
     let work = after.work;
     let answer = next.answer;

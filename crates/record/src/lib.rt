@@ -1,5 +1,5 @@
 // Document 01's record: one value that the main loop keeps and every step changes. N1 added the place in the
-// circle. Here are its types; `parts` makes records and reads and replaces their parts; `idle` says which
+// circle, N2 the steps that an operation has made. Here are its types; `parts` makes records and reads and replaces their parts; `idle` says which
 // party has no work.
 pub mod idle;
 pub mod parts;
@@ -56,6 +56,8 @@ pub enum ReaderWork {
 pub struct Lookup {
     pub point: u32,
     pub search: Search,
+    // how many steps it has made
+    pub steps: u32,
 }
 
 pub struct Walk {
@@ -78,6 +80,8 @@ pub struct Put {
     pub point: u32,
     pub value: u32,
     pub stage: PutStage,
+    // how many steps it has made
+    pub steps: u32,
 }
 
 pub enum PutStage {
@@ -94,6 +98,8 @@ pub struct Change {
     pub point: u32,
     pub alteration: Alteration,
     pub stage: ChangeStage,
+    // how many steps it has made
+    pub steps: u32,
 }
 
 // What a change makes of the value.
@@ -123,6 +129,8 @@ pub enum ChangeStage {
 pub struct Removal {
     pub point: u32,
     pub stage: RemovalStage,
+    // how many steps it has made
+    pub steps: u32,
 }
 
 pub enum RemovalStage {

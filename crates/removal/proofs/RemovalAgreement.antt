@@ -73,7 +73,7 @@ module _ (panel : Record) (slots : List ℕ) (rows : Rows) (removal : Removal) (
   on-stage : (read : ReadAccess) (stage : RemovalStage) (update : Update) → updated panel update ≡ panel → fedAt (removal .stage) ≡ 0 → fedAt stage ≡ 0 → RemovalOK m k (panel .reach) slots rows q stage → StepOK panel slots (Read read) (removalAt removal stage update) rows (removeRow m k q rows) (Removing removal)
   unfolding slotsAfter removalAt begun
   on-stage read stage update same before after h =
-      goes-on refl before after refl refl refl (ap (λ (p : Record). p .stations) same)
+      goes-on refl before after refl refl refl refl (ap (λ (p : Record). p .stations) same)
       (record {
         agrees = subst (λ (p : Record). Agrees m k (p .reach) (p .counts) slots rows) (sym same) agrees;
         work = subst (λ (p : Record). RemovalOK m k (p .reach) slots rows q stage) (sym same) h;
@@ -138,7 +138,7 @@ module _ (panel : Record) (slots : List ℕ) (rows : Rows) (removal : Removal) (
 
     last-step : StepOK panel slots (storeWord m q i 0) (removalAt removal Lowering (Uncounted i)) rows (tells (without q rows) (removed (largestIndex m k (without q rows)))) (Removing removal)
     unfolding storeWord slotsAfter removalAt updated uncounted withCount withCounts countOf begun
-    last-step = empties refl unfed refl refl refl refl refl (steady-without q rows) refl (record { agrees = emptied; work = tt })
+    last-step = empties refl unfed refl refl refl refl refl refl (steady-without q rows) refl (record { agrees = emptied; work = tt })
 
     only-step : (numbered counts-after i 0 ≢ 0) ⊎ (i ≢ panel .reach) → StepOK panel slots (storeWord m q i 0) (ends (Uncounted i) (removed (panel .reach))) rows (tells (without q rows) (removed (largestIndex m k (without q rows)))) (Removing removal)
     unfolding storeWord slotsAfter ends updated uncounted withCount withCounts countOf
@@ -197,5 +197,5 @@ module _ (panel : Record) (slots : List ℕ) (rows : Rows) (removal : Removal) (
 pub removal-agrees : (panel : Record) (slots : List ℕ) (rows : Rows) (removal : Removal) → Agrees (panel .m) (panel .k) (panel .reach) (panel .counts) slots rows → removalInRange (panel .k) removal ≡ true → WorkOK (panel .m) (panel .k) (panel .reach) slots rows (Removing removal) → StepOK panel slots (removalAccess (panel .m) (panel .k) (panel .counts) removal) (removalAdvance (panel .k) (panel .reach) (panel .counts) removal (accessRead slots (removalAccess (panel .m) (panel .k) (panel .counts) removal))) rows (removeRow (panel .m) (panel .k) (removal .point) rows) (Removing removal)
 unfolding removalAccess removalAdvance removalInRange
 removal-agrees panel slots rows removal agrees inside h =
-    at-stage panel slots rows removal agrees (both-left (validPoint (removal .point)) (removalStageInRange (panel .k) (removal .stage)) inside) (removal .stage) refl
-    (both-right (validPoint (removal .point)) (removalStageInRange (panel .k) (removal .stage)) inside) h
+    at-stage panel slots rows removal agrees (both-left (validPoint (removal .point)) _ inside) (removal .stage) refl
+    (both-left (removalStageInRange (panel .k) (removal .stage)) _ (both-right (validPoint (removal .point)) _ inside)) h

@@ -14,7 +14,8 @@ use Rattle.record.specs.declared.RemovalStage.{RemovalStage}
 use Rattle.record.specs.declared.RemovalStage.the-variants.{Searching, Found as RemovalStage·Found, Lowering}
 use Rattle.record.specs.declared.WriterWork.the-variants.{Removing}
 use Rattle.slot_words.specs.Points.{validPoint}
-use Rattle.work_ranges.specs.WorkRanges.{removalStageInRange, removalInRange, writerInRange}
+use Rattle.counting.specs.declared.steps.OperationKind.the-variants.{Removal as Kind·Removal}
+use Rattle.work_ranges.specs.WorkRanges.{stepsInRange, removalStageInRange, removalInRange, writerInRange}
 use Rattle.search.specs.declared.Searched.{Searched}
 use Rattle.search.specs.declared.Searched.the-variants.{Going, Answered}
 use Rattle.search.specs.declared.SearchAnswer.the-variants.{Found as SearchAnswer·Found, Unknown}
@@ -30,18 +31,18 @@ use Rattle.effects.proofs.CountLaws.{largest-high}
 use Rattle.effects.proofs.EffectLaws.{slotNamed, updateInRange, reachStored, removalLeft, writerLeft, OneEffect}
 use Rattle.removal.specs.Removal.{removalStageAccess, removalAccess, removalAt, removalAnswered, removalSearched, isLast, removalEmpties, removalLowers, removalStageAdvance, removalAdvance}
 
-module _ (k reach place : ℕ) (counts : List ℕ) (removal : Removal) (valid : validPoint (removal .point) ≡ true) where
+module _ (k reach place : ℕ) (counts : List ℕ) (removal : Removal) (valid : validPoint (removal .point) ≡ true) (made : stepsInRange Kind·Removal k (removal .steps) ≡ true) where
   -- the removal goes on at a stage in range with as many steps left
   at-stage : (left : ℕ) (stage : RemovalStage) (update : Update) → removalStageInRange k stage ≡ true → updateInRange k place update ≡ true → removalLeft k stage + 1 ≤ left → OneEffect k reach place left (removalAt removal stage update)
   unfolding removalAt writerInRange removalInRange writerLeft
   at-stage left stage update h e less =
-      record { work-fits = both-true (validPoint (removal .point)) (removalStageInRange k stage) valid h; update-fits = e; ended = refl; less = less }
+      record { work-fits = both-true (validPoint (removal .point)) _ valid (both-true (removalStageInRange k stage) _ h made); update-fits = e; ended = λ steps. refl; less = less }
 
   searched : (left : ℕ) (after : Searched) → OneStep k left after → OneEffect k reach place (left + 2) (removalSearched removal after)
   unfolding removalSearched removalAnswered ends removalStageInRange removalLeft searchedInRange searchedLeft answerInRange updateInRange writerInRange writerLeft
   searched left (Going search) s = at-stage _ (Searching search) Nothing (s .fits) refl (omega (arith, s .less))
   searched left (Answered (SearchAnswer·Found place)) s = at-stage _ (RemovalStage·Found place) Nothing (s .fits) refl (omega (arith, s .less))
-  searched left (Answered Unknown) s = record { work-fits = refl; update-fits = refl; ended = refl; less = omega arith }
+  searched left (Answered Unknown) s = record { work-fits = refl; update-fits = refl; ended = λ steps. refl; less = omega arith }
 
   empties : (index : ℕ) → within 1 index k ≡ true → OneEffect k reach place 2 (removalEmpties reach counts removal index)
   unfolding removalEmpties ends removalStageInRange removalLeft updateInRange writerInRange writerLeft
@@ -49,20 +50,21 @@ module _ (k reach place : ℕ) (counts : List ℕ) (removal : Removal) (valid : 
     where
       go : (last : Bool) → OneEffect k reach place 2 (cond last (removalAt removal Lowering (Uncounted index)) (ends (Uncounted index) (removed reach)))
       go true = at-stage 2 Lowering (Uncounted index) refl h (omega arith)
-      go false = record { work-fits = refl; update-fits = h; ended = refl; less = omega arith }
+      go false = record { work-fits = refl; update-fits = h; ended = λ steps. refl; less = omega arith }
 
   at-any-stage : (word : ℕ) (stage : RemovalStage) → reach ≤ k → removalStageInRange k stage ≡ true → OneEffect k reach place (removalLeft k stage) (removalStageAdvance k reach counts removal stage word)
   unfolding removalStageAdvance removalStageInRange removalLeft removalLowers ends updateInRange writerInRange writerLeft
   at-any-stage word (Searching search) r h = searched _ _ (search-step k reach (removal .point) search word r h)
   at-any-stage word (RemovalStage·Found place) r h = empties (place .index) h
   at-any-stage word Lowering r h =
-      record { work-fits = refl; update-fits = le-leb (largestCounted k counts) k (largest-high counts k); ended = refl; less = omega arith }
+      record { work-fits = refl; update-fits = le-leb (largestCounted k counts) k (largest-high counts k); ended = λ steps. refl; less = omega arith }
 
 pub removal-effect : (k reach place : ℕ) (counts : List ℕ) (removal : Removal) (word : ℕ) → reach ≤ k → removalInRange k removal ≡ true → OneEffect k reach place (writerLeft k reach (Removing removal)) (removalAdvance k reach counts removal word)
 unfolding removalAdvance removalInRange writerLeft
 removal-effect k reach place counts removal word r h =
-    at-any-stage k reach place counts removal (both-left (validPoint (removal .point)) (removalStageInRange k (removal .stage)) h) word (removal .stage) r
-    (both-right (validPoint (removal .point)) (removalStageInRange k (removal .stage)) h)
+    let rest = both-right (validPoint (removal .point)) _ h in
+    at-any-stage k reach place counts removal (both-left (validPoint (removal .point)) _ h) (both-right (removalStageInRange k (removal .stage)) _ rest) word (removal .stage) r
+    (both-left (removalStageInRange k (removal .stage)) _ rest)
 
 -- the step whose access stores the reach, and no other, updates the reach
 module _ (m k reach : ℕ) (counts : List ℕ) (removal : Removal) (word : ℕ) where

@@ -36,7 +36,7 @@ removalAccess m k counts removal = removalStageAccess m k counts removal (remova
 -- the removal goes on at this stage
 unfoldable pub removalAt : Removal → RemovalStage → Update → WriterEffect
 removalAt removal stage update =
-    record { work = Removing (record { point = removal .point; stage = stage }); update = update; progress = continues }
+    record { work = Removing (record { point = removal .point; stage = stage; steps = removal .steps }); update = update; progress = continues }
 
 -- "found, store 0"; "Else 7"
 unfoldable pub removalAnswered : Removal → SearchAnswer → WriterEffect

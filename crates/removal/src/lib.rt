@@ -65,6 +65,7 @@ fn removal_at(removal: Removal, stage: RemovalStage, update: Update) -> Effect
         work: WriterWork::Removing(Removal {
             point: removal.point,
             stage: stage,
+            steps: removal.steps,
         }),
         update: update,
         progress: Progress::Underway,

@@ -1,9 +1,12 @@
--- Document 01, "What the panel holds": the ranges of the work underway.
+-- Document 01, "What the panel holds", and request N2: the ranges of the work underway.
 use Prim.Native.Nat.{ℕ}
 use mathlib.Core.Bool.{Bool, true}
 use lib.Dec.{leb, ltb}
 use Rattle.conditions.specs.Conditions.{both, within}
 use Rattle.slot_words.specs.Points.{validPoint}
+use Rattle.counting.specs.declared.steps.OperationKind.{OperationKind}
+use Rattle.counting.specs.declared.steps.OperationKind.the-variants.{Lookup as Kind·Lookup, Put as Kind·Put, Change as Kind·Change, Removal as Kind·Removal}
+use Rattle.counting.specs.Steps.{stepBound}
 use Rattle.record.specs.declared.Search.{Search}
 use Rattle.record.specs.declared.Search.the-variants.{Unread, Probing}
 use Rattle.record.specs.declared.ReaderWork.{ReaderWork}
@@ -29,9 +32,14 @@ unfoldable pub searchInRange : ℕ → Search → Bool
 searchInRange k Unread = true
 searchInRange k (Probing p) = both (leb (p .reach) k) (within 1 (p .next) (p .reach))
 
+-- "The count in work runs from 0 to the operation's step bound"
+unfoldable pub stepsInRange : OperationKind → ℕ → ℕ → Bool
+stepsInRange kind k steps = leb steps (stepBound kind k)
+
 -- "point valid"
 unfoldable pub lookupInRange : ℕ → Lookup → Bool
-lookupInRange k lookup = both (validPoint (lookup .point)) (searchInRange k (lookup .search))
+lookupInRange k lookup =
+    both (validPoint (lookup .point)) (both (searchInRange k (lookup .search)) (stepsInRange Kind·Lookup k (lookup .steps)))
 
 -- "next slot 0 to m − 1"
 unfoldable pub workInRange : ℕ → ℕ → ReaderWork → Bool
@@ -48,7 +56,7 @@ putStageInRange k (Chosen index) = within 1 index k
 
 -- "point valid"; any value
 unfoldable pub putInRange : ℕ → Put → Bool
-putInRange k put = both (validPoint (put .point)) (putStageInRange k (put .stage))
+putInRange k put = both (validPoint (put .point)) (both (putStageInRange k (put .stage)) (stepsInRange Kind·Put k (put .steps)))
 
 -- "A command underway keeps the ranges of its frame": station 1 to 32, number 1 to 16777215, action not above 2
 unfoldable pub commandInRange : Command → Bool
@@ -68,7 +76,8 @@ changeStageInRange k (ChangeStage·Found place) = within 1 (place .index) k
 -- "point valid"
 unfoldable pub changeInRange : ℕ → Change → Bool
 changeInRange k change =
-    both (validPoint (change .point)) (both (alterationInRange (change .alteration)) (changeStageInRange k (change .stage)))
+    both (validPoint (change .point))
+    (both (alterationInRange (change .alteration)) (both (changeStageInRange k (change .stage)) (stepsInRange Kind·Change k (change .steps))))
 
 -- "for a place already chosen"
 unfoldable pub removalStageInRange : ℕ → RemovalStage → Bool
@@ -78,7 +87,8 @@ removalStageInRange k Lowering = true
 
 -- "point valid"
 unfoldable pub removalInRange : ℕ → Removal → Bool
-removalInRange k removal = both (validPoint (removal .point)) (removalStageInRange k (removal .stage))
+removalInRange k removal =
+    both (validPoint (removal .point)) (both (removalStageInRange k (removal .stage)) (stepsInRange Kind·Removal k (removal .steps)))
 
 -- "the writer's work"
 unfoldable pub writerInRange : ℕ → WriterWork → Bool

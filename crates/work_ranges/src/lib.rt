@@ -1,8 +1,10 @@
 // The ranges of the work underway: a reader's and the writer's, one function for each group.
 ghost use mathlib.Core.Path.{_≡_};
-ghost use Rattle.work_ranges.specs.WorkRanges.{searchInRange, lookupInRange, workInRange, putStageInRange, putInRange, commandInRange, alterationInRange, changeStageInRange, changeInRange, removalStageInRange, removalInRange, writerInRange};
+ghost use Rattle.work_ranges.specs.WorkRanges.{searchInRange, stepsInRange, lookupInRange, workInRange, putStageInRange, putInRange, commandInRange, alterationInRange, changeStageInRange, changeInRange, removalStageInRange, removalInRange, writerInRange};
 use conditions::both_hold;
 use conditions::is_within;
+use counting::steps::OperationKind;
+use counting::steps::step_bound;
 use record::Alteration;
 use record::Change;
 use record::ChangeStage;
@@ -26,11 +28,23 @@ fn is_search_in_range(search: Search, k: u32) -> bool
     }
 }
 
+fn are_steps_in_range(steps: u32, kind: OperationKind, k: u32) -> bool
+    ensures { λ r. ⌜ r ≡ stepsInRange kind k steps ⌝ }
+{
+    steps as u64 <= step_bound(kind, k)
+}
+
 fn is_lookup_in_range(lookup: Lookup, k: u32) -> bool
     ensures { λ r. ⌜ r ≡ lookupInRange k lookup ⌝ }
 {
     let search = lookup.search;
-    both_hold(is_valid_point(lookup.point), is_search_in_range(search, k))
+    both_hold(
+        is_valid_point(lookup.point),
+        both_hold(
+            is_search_in_range(search, k),
+            are_steps_in_range(lookup.steps, OperationKind::Lookup, k),
+        ),
+    )
 }
 
 pub fn is_work_in_range(work: ReaderWork, m: u32, k: u32) -> bool
@@ -58,7 +72,13 @@ fn is_put_in_range(put: Put, k: u32) -> bool
     ensures { λ r. ⌜ r ≡ putInRange k put ⌝ }
 {
     let stage = put.stage;
-    both_hold(is_valid_point(put.point), is_put_stage_in_range(stage, k))
+    both_hold(
+        is_valid_point(put.point),
+        both_hold(
+            is_put_stage_in_range(stage, k),
+            are_steps_in_range(put.steps, OperationKind::Put, k),
+        ),
+    )
 }
 
 fn is_command_in_range(command: Command) -> bool
@@ -97,7 +117,10 @@ fn is_change_in_range(change: Change, k: u32) -> bool
         is_valid_point(change.point),
         both_hold(
             is_alteration_in_range(alteration),
-            is_change_stage_in_range(stage, k),
+            both_hold(
+                is_change_stage_in_range(stage, k),
+                are_steps_in_range(change.steps, OperationKind::Change, k),
+            ),
         ),
     )
 }
@@ -118,7 +141,10 @@ fn is_removal_in_range(removal: Removal, k: u32) -> bool
     let stage = removal.stage;
     both_hold(
         is_valid_point(removal.point),
-        is_removal_stage_in_range(stage, k),
+        both_hold(
+            is_removal_stage_in_range(stage, k),
+            are_steps_in_range(removal.steps, OperationKind::Removal, k),
+        ),
     )
 }
 

@@ -3,3 +3,4 @@ pub mod WriterAgreement
 pub mod WorkLaws
 pub mod StepInPlace
 pub mod StartsInPlace
+pub mod CountedWork

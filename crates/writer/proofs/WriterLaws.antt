@@ -9,6 +9,7 @@ use borrow.Author.Tests.{not-true, not-false}
 use lib.ListN.{length, getD, length-set}
 use lib.Seq.{getD-set-same, getD-set-other}
 use Rattle.refusal.specs.Judging.{refuseIf}
+use Rattle.conditions.specs.Conditions.{both}
 use Rattle.conditions.proofs.ConditionLaws.{both-true}
 use Rattle.refusal.proofs.Laws.{not-refused}
 use Rattle.record.specs.declared.Record.{Record}
@@ -16,7 +17,11 @@ use Rattle.record.specs.declared.WriterWork.{WriterWork}
 use Rattle.record.specs.declared.WriterWork.the-variants.{Idle, Putting, Changing, Removing}
 use Rattle.record.specs.Parts.{withWriter}
 use Rattle.slot_words.specs.Points.{validPoint}
-use Rattle.work_ranges.specs.WorkRanges.{searchInRange, putStageInRange, putInRange, removalStageInRange, removalInRange, writerInRange}
+use Rattle.counting.specs.declared.steps.OperationKind.the-variants.{Put, Removal}
+use Rattle.counting.specs.Steps.{writerCounted, stepsOf}
+use Rattle.counting.proofs.StepLaws.{writer-counted-idle}
+use Rattle.work_ranges.specs.WorkRanges.{searchInRange, stepsInRange, putStageInRange, putInRange, removalStageInRange, removalInRange, writerInRange}
+use Rattle.work_ranges.proofs.CountedRanges.{none-made, writer-counted-fits}
 use Rattle.record_ranges.specs.Ranges.{inRange}
 use Rattle.record_ranges.proofs.Laws.{fields, sizes-in-range, with-writer-in-range}
 use Rattle.writer.specs.Starts.{workStartRefusal, startRefusal, startWriter, startPut, startRemoval}
@@ -32,6 +37,7 @@ use Rattle.effects.specs.Memory.{slotStored, accessRead, slotsAfter}
 use Rattle.effects.specs.Effects.{WriterEffect, goesOn, updated, reachAfter}
 use Rattle.record.specs.Idle.{isWriterIdle}
 use Rattle.effects.proofs.EffectLaws.{slotNamed, updateInRange, updated-in-range, reachStored, Updated, update-leaves, writerLeft, OneEffect}
+use Rattle.writer.proofs.CountedWork.{same-access, same-left, same-station}
 use Rattle.put.proofs.PutLaws.{put-effect, put-reach, put-inside}
 use Rattle.change.proofs.ChangeLaws.{change-effect, change-reach, change-inside}
 use Rattle.removal.proofs.RemovalLaws.{removal-effect, removal-reach, removal-inside}
@@ -56,48 +62,58 @@ slots-length slots (Read access) = refl
 slots-length slots (StoreReach reach) = refl
 slots-length slots (StoreSlot store) = length-set slots (store .slot) (store .word)
 
+-- the writer's work with the step counted that it makes now
+abbrev pub countedWork : Record → WriterWork
+countedWork panel = writerCounted (panel .k) (panel .writer .work)
+
 -- a step of a writer at work on a record in range
 module _ (panel : Record) (slots : List ℕ) (fits : inRange (length slots) panel ≡ true) (works : isWriterIdle (panel .writer .work) ≡ false) where
   access : WriterAccess
-  access = writerAccess panel (panel .writer .work)
+  access = writerAccess panel (countedWork panel)
 
   effect : WriterEffect
-  effect = writerAdvance panel (panel .writer .work) (slotStored access) (accessRead slots access)
+  effect = writerAdvance panel (countedWork panel) (slotStored access) (accessRead slots access)
 
   -- no call is refused
-  pub allowed : stepWriter panel slots ≡ writerRuns panel slots (panel .writer .work)
+  pub allowed : stepWriter panel slots ≡ writerRuns panel slots (countedWork panel)
   unfolding stepWriter stepRefusal workRefusal refuseIf unlessRefused
   allowed = rw (fits, works)
 
-  one : OneEffect (panel .k) (panel .reach) (stationAt (panel .writer .work)) (writerLeft (panel .k) (panel .reach) (panel .writer .work)) effect
+  -- the step counted, the work is in range
+  pub counted-fits : writerInRange (panel .k) (countedWork panel) ≡ true
+  counted-fits = writer-counted-fits (panel .k) (panel .writer .work) (sizes-in-range (length slots) panel fits .k-high) (fields (length slots) panel fits .writer-fits)
+
+  one : OneEffect (panel .k) (panel .reach) (stationAt (countedWork panel)) (writerLeft (panel .k) (panel .reach) (countedWork panel)) effect
   unfolding effect access
   one =
-      writer-effect panel (panel .writer .work) _ _ (sizes-in-range (length slots) panel fits .k-low) (fields (length slots) panel fits .reach-fits)
-      (fields (length slots) panel fits .writer-fits) works
+      writer-effect panel (countedWork panel) _ _ (sizes-in-range (length slots) panel fits .k-low) (fields (length slots) panel fits .reach-fits) counted-fits
+      (writer-counted-idle (panel .k) (panel .writer .work) ∙ works)
 
   -- what the step stores in the record is in range, and each part stands at its place
-  pub run-update-fits : updateInRange (panel .k) (stationAt (panel .writer .work)) (writerAdvance panel (panel .writer .work) (slotStored (writerAccess panel (panel .writer .work))) (accessRead slots (writerAccess panel (panel .writer .work))) .update) ≡ true
+  pub run-update-fits : updateInRange (panel .k) (stationAt (panel .writer .work)) (writerAdvance panel (countedWork panel) (slotStored (writerAccess panel (countedWork panel))) (accessRead slots (writerAccess panel (countedWork panel))) .update) ≡ true
   unfolding effect access
-  run-update-fits = one .update-fits
+  run-update-fits = ap (λ (place : ℕ). updateInRange (panel .k) place (effect .update)) (sym (same-station (panel .k) (panel .writer .work))) ∙ one .update-fits
 
   leaves : Updated panel (effect .update)
   leaves = update-leaves panel (effect .update)
 
-  pub run-in-range : inRange (length (writerRuns panel slots (panel .writer .work) .slots)) (writerRuns panel slots (panel .writer .work) .panel) ≡ true
+  pub run-in-range : inRange (length (writerRuns panel slots (countedWork panel) .slots)) (writerRuns panel slots (countedWork panel) .panel) ≡ true
   unfolding writerRuns afterStep effect access
   run-in-range =
       transport (λ j. inRange (sym (slots-length slots access) j) (withWriter (updated panel (effect .update)) (effect .work)) ≡ true)
-      (with-writer-in-range (length slots) (updated panel (effect .update)) (updated-in-range (length slots) (stationAt (panel .writer .work)) panel (effect .update) fits (one .update-fits)) (effect .work)
+      (with-writer-in-range (length slots) (updated panel (effect .update)) (updated-in-range (length slots) (stationAt (countedWork panel)) panel (effect .update) fits (one .update-fits)) (effect .work)
       (ap (λ (k : ℕ). writerInRange k (effect .work)) (leaves .k-stays) ∙ one .work-fits))
 
   -- "A step that ends an operation .. leaves that party idle", and only such a step does
-  pub run-ended : isUnderway (writerRuns panel slots (panel .writer .work) .answer) ≡ not (isWriterIdle (writerRuns panel slots (panel .writer .work) .panel .writer .work))
+  pub run-ended : isUnderway (writerRuns panel slots (countedWork panel) .answer) ≡ not (isWriterIdle (writerRuns panel slots (countedWork panel) .panel .writer .work))
   unfolding writerRuns afterStep withWriter effect access
-  run-ended = one .ended
+  run-ended = one .ended (stepsOf (countedWork panel))
 
-  pub run-less : writerLeft (writerRuns panel slots (panel .writer .work) .panel .k) (writerRuns panel slots (panel .writer .work) .panel .reach) (writerRuns panel slots (panel .writer .work) .panel .writer .work) + 1 ≤ writerLeft (panel .k) (panel .reach) (panel .writer .work)
+  pub run-less : writerLeft (writerRuns panel slots (countedWork panel) .panel .k) (writerRuns panel slots (countedWork panel) .panel .reach) (writerRuns panel slots (countedWork panel) .panel .writer .work) + 1 ≤ writerLeft (panel .k) (panel .reach) (panel .writer .work)
   unfolding writerRuns afterStep withWriter effect access
-  run-less = transport (λ j. writerLeft (sym (leaves .k-stays) j) (sym (leaves .reach-after) j) (effect .work) + 1 ≤ writerLeft (panel .k) (panel .reach) (panel .writer .work)) (one .less)
+  run-less =
+      transport (λ j. writerLeft (sym (leaves .k-stays) j) (sym (leaves .reach-after) j) (effect .work) + 1 ≤ same-left (panel .k) (panel .reach) (panel .writer .work) j)
+      (one .less)
 
 -- what holds of a writer at work and right after its last step: the record in range, and work exactly while the operation is underway
 pub record AtWork (now : Outcome) : Type 0 where
@@ -108,7 +124,7 @@ pub record AtWork (now : Outcome) : Type 0 where
 pub works : (now : Outcome) → AtWork now → isUnderway (now .answer) ≡ true → isWriterIdle (now .panel .writer .work) ≡ false
 works now p e = not-true (isWriterIdle (now .panel .writer .work)) (sym (p .busy) ∙ e)
 
-pub run-at-work : (panel : Record) (slots : List ℕ) → inRange (length slots) panel ≡ true → isWriterIdle (panel .writer .work) ≡ false → AtWork (writerRuns panel slots (panel .writer .work))
+pub run-at-work : (panel : Record) (slots : List ℕ) → inRange (length slots) panel ≡ true → isWriterIdle (panel .writer .work) ≡ false → AtWork (writerRuns panel slots (countedWork panel))
 run-at-work panel slots fits working = record { fits = run-in-range panel slots fits working; busy = run-ended panel slots fits working }
 
 -- a start, and what it leaves
@@ -132,11 +148,11 @@ module _ (panel : Record) (slots : List ℕ) (point : ℕ) (work : WriterWork) w
 module _ (panel : Record) (slots : List ℕ) (point : ℕ) where
   pub put-begins : (value : ℕ) → Begun (startPut panel slots point value)
   unfolding startPut writerInRange putInRange putStageInRange searchInRange
-  put-begins value = start-begins panel slots point _ (λ valid. both-true (validPoint point) true valid refl) refl
+  put-begins value = start-begins panel slots point _ (λ valid. both-true (validPoint point) (both true (stepsInRange Put (panel .k) 0)) valid (both-true true _ refl (none-made Put (panel .k)))) refl
 
   pub removal-begins : Begun (startRemoval panel slots point)
   unfolding startRemoval writerInRange removalInRange removalStageInRange searchInRange
-  removal-begins = start-begins panel slots point _ (λ valid. both-true (validPoint point) true valid refl) refl
+  removal-begins = start-begins panel slots point _ (λ valid. both-true (validPoint point) (both true (stepsInRange Removal (panel .k) 0)) valid (both-true true _ refl (none-made Removal (panel .k)))) refl
 
 writer-inside : (panel : Record) (work : WriterWork) → 1 ≤ panel .m → slotNamed (writerAccess panel work) < panel .m
 unfolding workAccess slotNamed slotRead
@@ -155,7 +171,7 @@ module _ (panel : Record) (slots : List ℕ) where
       (λ e.
       let leaves = update-leaves panel _ in
       record {
-        length-stays = slots-length slots (writerAccess panel (panel .writer .work));
+        length-stays = slots-length slots (writerAccess panel (countedWork panel));
         m-stays = leaves .m-stays;
         k-stays = leaves .k-stays;
         readers-stay = leaves .readers-stay;
@@ -175,9 +191,9 @@ module _ (panel : Record) (slots : List ℕ) where
       unless (λ (o : Outcome). inRange (length (o .slots)) (o .panel) ≡ true) (stepRefusal (length slots) panel) (outcome panel slots) _ (λ answer. fits)
       (λ e. let w = at-work e in run-in-range panel slots (w .0) (w .1))
 
-  reach-after : writerRuns panel slots (panel .writer .work) .panel .reach ≡ reachStored (panel .reach) (writerAccess panel (panel .writer .work))
+  reach-after : writerRuns panel slots (countedWork panel) .panel .reach ≡ reachStored (panel .reach) (writerAccess panel (countedWork panel))
   unfolding writerRuns afterStep withWriter
-  reach-after = update-leaves panel _ .reach-after ∙ writer-reach panel (panel .writer .work) _ _
+  reach-after = update-leaves panel _ .reach-after ∙ writer-reach panel (countedWork panel) _ _
 
   does : (access : WriterAccess) → slotNamed access < length slots → (after : Outcome) → after .slots ≡ slotsAfter slots access → after .panel .reach ≡ reachStored (panel .reach) access → Does (panel .reach) slots after access
   unfolding slotsAfter reachStored slotNamed
@@ -193,6 +209,6 @@ module _ (panel : Record) (slots : List ℕ) where
   step-does e =
       let w = at-work e in
       let sizes = sizes-in-range (length slots) panel (w .0) in
-      let inside = writer-inside panel (panel .writer .work) (sizes .m-low) in
-      transport (λ j. Does (panel .reach) slots (sym (allowed panel slots (w .0) (w .1)) j) (writerAccess panel (panel .writer .work)))
-      (does (writerAccess panel (panel .writer .work)) (omega (arith, inside, sizes .whole)) (writerRuns panel slots (panel .writer .work)) refl reach-after)
+      let inside = writer-inside panel (countedWork panel) (sizes .m-low) in
+      transport (λ j. Does (panel .reach) slots (sym (allowed panel slots (w .0) (w .1)) j) (same-access (panel .m) (panel .k) (panel .reach) (panel .counts) (panel .writer .work) j))
+      (does (writerAccess panel (countedWork panel)) (omega (arith, inside, sizes .whole)) (writerRuns panel slots (countedWork panel)) refl reach-after)

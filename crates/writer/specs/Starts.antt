@@ -35,16 +35,16 @@ startWriter panel slots point work =
 
 -- a put that begins
 abbrev pub putBegun : ℕ → ℕ → WriterWork
-putBegun point value = Putting (record { point = point; value = value; stage = PutStage·Searching Unread })
+putBegun point value = Putting (record { point = point; value = value; stage = PutStage·Searching Unread; steps = 0 })
 
 -- a change that begins
 abbrev pub changeBegun : ℕ → ℕ → ℕ → WriterWork
 changeBegun point keep flip =
-    Changing (record { point = point; alteration = Given (record { keep = keep; flip = flip }); stage = ChangeStage·Searching Unread })
+    Changing (record { point = point; alteration = Given (record { keep = keep; flip = flip }); stage = ChangeStage·Searching Unread; steps = 0 })
 
 -- a removal that begins
 abbrev pub removalBegun : ℕ → WriterWork
-removalBegun point = Removing (record { point = point; stage = RemovalStage·Searching Unread })
+removalBegun point = Removing (record { point = point; stage = RemovalStage·Searching Unread; steps = 0 })
 
 -- starting a put
 unfoldable pub startPut : Record → List ℕ → ℕ → ℕ → Outcome

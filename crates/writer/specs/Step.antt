@@ -1,4 +1,4 @@
--- Document 01, "Steps": the writer's step.
+-- Document 01, "Steps", and request N2: the writer's step.
 use Prim.Native.Nat.{ℕ}
 use mathlib.Core.Bool.{Bool, not}
 use mathlib.Core.List.{List}
@@ -10,6 +10,7 @@ use Rattle.record.specs.declared.WriterWork.the-variants.{Idle, Putting, Changi
 use Rattle.record.specs.Parts.{withWriter}
 use Rattle.record_ranges.specs.Ranges.{inRange}
 use Rattle.search.specs.declared.access.ReadAccess.the-variants.{Nothing as ReadAccess·Nothing}
+use Rattle.counting.specs.Steps.{writerCounted, stepsOf}
 use Rattle.answers.specs.Answers.{stepAnswer, Outcome, outcome, unlessRefused}
 use Rattle.effects.specs.declared.memory.WriterAccess.{WriterAccess}
 use Rattle.effects.specs.declared.memory.WriterAccess.the-variants.{Read}
@@ -50,17 +51,18 @@ workRefusal fits work = refuseIf (not fits) 1 (refuseIf (isWriterIdle work) 5 0)
 unfoldable pub stepRefusal : ℕ → Record → ℕ
 stepRefusal lent panel = workRefusal (inRange lent panel) (panel .writer .work)
 
--- the record with its update and the writer's new work, and the answer
-unfoldable pub afterStep : Record → List ℕ → WriterEffect → Outcome
-afterStep panel slots effect = outcome (withWriter (updated panel (effect .update)) (effect .work)) slots (stepAnswer (effect .progress))
+-- the record with its update and the writer's new work, and the answer, which has the steps made if the operation has ended
+unfoldable pub afterStep : Record → List ℕ → ℕ → WriterEffect → Outcome
+afterStep panel slots steps effect =
+    outcome (withWriter (updated panel (effect .update)) (effect .work)) slots (stepAnswer steps (effect .progress))
 
--- the three parts of the step of a writer with this work
+-- the three parts of the step of a writer whose work counts it
 unfoldable pub writerRuns : Record → List ℕ → WriterWork → Outcome
 writerRuns panel slots work =
-    afterStep panel (slotsAfter slots (writerAccess panel work))
+    afterStep panel (slotsAfter slots (writerAccess panel work)) (stepsOf work)
     (writerAdvance panel work (slotStored (writerAccess panel work)) (accessRead slots (writerAccess panel work)))
 
--- the writer's step
+-- the writer's step: "gives the number of steps it took", so it is counted, then made
 unfoldable pub stepWriter : Record → List ℕ → Outcome
 stepWriter panel slots =
-    unlessRefused (stepRefusal (length slots) panel) (outcome panel slots) (writerRuns panel slots (panel .writer .work))
+    unlessRefused (stepRefusal (length slots) panel) (outcome panel slots) (writerRuns panel slots (writerCounted (panel .k) (panel .writer .work)))

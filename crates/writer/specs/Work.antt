@@ -8,6 +8,7 @@ use Rattle.record.specs.declared.Station.{Station}
 use Rattle.record.specs.declared.WriterWork.{WriterWork}
 use Rattle.record.specs.declared.WriterWork.the-variants.{Idle, Putting, Changing, Removing}
 use Rattle.record.specs.Parts.{unheardStation, withReach, withCounts, withWriter, withStations, numberedPlace}
+use Rattle.counting.specs.Steps.{writerCounted, stepsOf}
 use Rattle.answers.specs.Answers.{Answer, stepAnswer, paperStep, Outcome, outcome, unlessRefused}
 use Rattle.effects.specs.declared.update.Update.{Update}
 use Rattle.effects.specs.declared.update.Update.the-variants.{Nothing}
@@ -33,21 +34,21 @@ paperWork step slots = record { work = step .work; update = step .update; slots 
 abbrev pub workLeft : WriterWork → List ℕ → Answer → WorkOutcome
 workLeft work slots answer = record { work = work; update = Nothing; slots = slots; answer = answer }
 
--- a step with these slots after its access, and this effect
-unfoldable pub afterAccess : List ℕ → WriterEffect → WorkOutcome
-afterAccess slots effect =
-    record { work = effect .work; update = effect .update; slots = slots; answer = stepAnswer (effect .progress) }
+-- a step with these slots after its access, this count and this effect
+unfoldable pub afterAccess : List ℕ → ℕ → WriterEffect → WorkOutcome
+afterAccess slots steps effect =
+    record { work = effect .work; update = effect .update; slots = slots; answer = stepAnswer steps (effect .progress) }
 
--- the three parts of a step of this work
+-- the three parts of a step of work that counts it
 unfoldable pub workRuns : ℕ → ℕ → ℕ → List ℕ → WriterWork → List ℕ → WorkOutcome
 workRuns m k reach counts work slots =
-    afterAccess (slotsAfter slots (workAccess m k reach counts work))
+    afterAccess (slotsAfter slots (workAccess m k reach counts work)) (stepsOf work)
     (workAdvance k reach counts work (slotStored (workAccess m k reach counts work)) (accessRead slots (workAccess m k reach counts work)))
 
--- the step of a writer with this work, by whether the record is in range
+-- the step of a writer with this work, by whether the record is in range; the step is counted, then made
 unfoldable pub stepWork : Bool → ℕ → ℕ → ℕ → List ℕ → WriterWork → List ℕ → WorkOutcome
 stepWork fits m k reach counts work slots =
-    unlessRefused (workRefusal fits work) (workLeft work slots) (workRuns m k reach counts work slots)
+    unlessRefused (workRefusal fits work) (workLeft work slots) (workRuns m k reach counts (writerCounted k work) slots)
 
 -- the station whose command's change is underway; 0 where none is
 abbrev pub stationUnderway : WriterWork → ℕ

@@ -80,6 +80,7 @@ pub fn put_started(fits: bool, writer: Writer, point: u32, value: u32) -> Starte
         point: point,
         value: value,
         stage: PutStage::Searching(Search::Unread),
+        steps: 0,
     });
     started(fits, writer, point, new)
 }
@@ -95,6 +96,7 @@ pub fn change_started(fits: bool, writer: Writer, point: u32, keep: u32, flip: u
             flip: flip,
         }),
         stage: ChangeStage::Searching(Search::Unread),
+        steps: 0,
     });
     started(fits, writer, point, new)
 }
@@ -106,6 +108,7 @@ pub fn removal_started(fits: bool, writer: Writer, point: u32) -> StartedWriter
     let new = WriterWork::Removing(Removal {
         point: point,
         stage: RemovalStage::Searching(Search::Unread),
+        steps: 0,
     });
     started(fits, writer, point, new)
 }

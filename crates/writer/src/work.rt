@@ -10,6 +10,8 @@ use answers::result_of;
 use change::change_access;
 use change::change_advance;
 use change::commanding_station;
+use counting::steps::steps_of;
+use counting::steps::writer_counted;
 use effects::memory::WriterAccess;
 use effects::memory::perform;
 use effects::memory::slot_stored;
@@ -104,7 +106,7 @@ fn judge_step(fits: bool, work: WriterWork) -> Judged
     Judged::Allowed
 }
 
-// The three parts of a step.
+// The three parts of a step of work that counts it.
 fn run_step(
     m: u32,
     k: u32,
@@ -125,11 +127,11 @@ fn run_step(
     WorkStep {
         work: next,
         update: update,
-        answer: StepAnswer::Stepped(result_of(progress)),
+        answer: StepAnswer::Stepped(result_of(progress, steps_of(work))),
     }
 }
 
-// A step, unless it is refused.
+// A step is counted and made, unless it is refused.
 fn judged_step(
     fits: bool,
     m: u32,
@@ -147,7 +149,7 @@ fn judged_step(
             update: Update::Nothing,
             answer: StepAnswer::Refused(refusal),
         },
-        Judged::Allowed => run_step(m, k, reach, counts, work, slots),
+        Judged::Allowed => run_step(m, k, reach, counts, writer_counted(work, k), slots),
     }
 }
 

@@ -13,7 +13,7 @@ returns : tie.Need-returns
 returns c = search needs
 
 returns-2 : tie.Need-returns-2
-returns-2 c = cc
+returns-2 c = rw (c .before .progress .given .1)
 
 pub result-of-spec : {M : Type 1} → statement M
 result-of-spec = tie.close (tie.spec enum-told enum-known-progress returns returns-2)

@@ -2,7 +2,7 @@
 use mathlib.Core.Path.{ap, _∙_, sym}
 use borrow.Author.Needs.{needs}
 use Rattle.record.specs.declared.ReaderWork.the-variants.{Idle as ReaderWork·Idle}
-use Rattle.answers.specs.Answers.{Ending, ended}
+use Rattle.answers.specs.Answers.{Ending, completed, ended}
 use Rattle.reader_step.specs.Reader.{lookupAdvance, lookupEffect}
 use Rattle.reader_step.proofs.lookup_advance.Statement.{statement}
 use Rattle.reader_step.proofs.lookup_advance.Tie as tie
@@ -26,8 +26,9 @@ returns c = rw (sym (c .before .before .before .search-advance .ensures) ∙ c .
 returns-2 : tie.Need-returns-2
 unfolding lookupAdvance lookupEffect
 returns-2 c =
+    let a = c .before .before .before .before .before .args in
     rw (sym (c .before .before .before .before .search-advance .ensures) ∙ c .before .before .answer .given .1)
-    (ap (λ (ending : Ending). record { work = ReaderWork·Idle; answer = ended ending }) (c .lookup-ending .ensures))
+    (ap (λ (ending : Ending). record { work = ReaderWork·Idle; answer = ended (completed ending (a .lookup .steps)) }) (c .lookup-ending .ensures))
 
 pub lookup-advance-spec : {M : Type 1} → statement M
 lookup-advance-spec =

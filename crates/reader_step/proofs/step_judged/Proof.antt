@@ -26,7 +26,7 @@ returns c =
     let s = now (a .slots) in
     let work = c .before .before .before .work-of .ensures in
     ap (λ (q : Record). outcome q s (paperStep (c .before .before .step-work .result .answer))) (c .with-work .ensures)
-    ∙ ap (afterStep p s (a .reader)) (c .before .before .step-work .ensures ∙ (λ j. stepWork (a .fits) (a .reader) (p .m) (p .reach) (work j) s))
+    ∙ ap (afterStep p s (a .reader)) (c .before .before .step-work .ensures ∙ (λ j. stepWork (a .fits) (a .reader) (p .m) (p .k) (p .reach) (work j) s))
     ∙ step-by-work p s (a .reader) (a .fits)
 
 pub step-judged-spec : {M : Type 1} → statement M

@@ -13,11 +13,17 @@ is-alteration-in-range-requires c κs = search needs
 is-change-stage-in-range-requires : tie.Need-is-change-stage-in-range-requires
 is-change-stage-in-range-requires c κs = search needs
 
+are-steps-in-range-requires : tie.Need-are-steps-in-range-requires
+are-steps-in-range-requires c κs = search needs
+
 both-hold-requires : tie.Need-both-hold-requires
 both-hold-requires c κs = search needs
 
 both-hold-requires-2 : tie.Need-both-hold-requires-2
 both-hold-requires-2 c κs = search needs
+
+both-hold-requires-3 : tie.Need-both-hold-requires-3
+both-hold-requires-3 c κs = search needs
 
 returns : tie.Need-returns
 unfolding changeInRange
@@ -30,6 +36,8 @@ is-change-in-range-spec =
     is-valid-point-requires
     is-alteration-in-range-requires
     is-change-stage-in-range-requires
+    are-steps-in-range-requires
     both-hold-requires
     both-hold-requires-2
+    both-hold-requires-3
     returns)

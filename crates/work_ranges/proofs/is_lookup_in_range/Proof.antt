@@ -10,8 +10,14 @@ is-valid-point-requires c κs = search needs
 is-search-in-range-requires : tie.Need-is-search-in-range-requires
 is-search-in-range-requires c κs = search needs
 
+are-steps-in-range-requires : tie.Need-are-steps-in-range-requires
+are-steps-in-range-requires c κs = search needs
+
 both-hold-requires : tie.Need-both-hold-requires
 both-hold-requires c κs = search needs
+
+both-hold-requires-2 : tie.Need-both-hold-requires-2
+both-hold-requires-2 c κs = search needs
 
 returns : tie.Need-returns
 unfolding lookupInRange
@@ -20,4 +26,10 @@ returns c = cc
 pub is-lookup-in-range-spec : {M : Type 1} → statement M
 is-lookup-in-range-spec =
     tie.close
-    (tie.spec is-valid-point-requires is-search-in-range-requires both-hold-requires returns)
+    (tie.spec
+    is-valid-point-requires
+    is-search-in-range-requires
+    are-steps-in-range-requires
+    both-hold-requires
+    both-hold-requires-2
+    returns)

@@ -10,8 +10,14 @@ is-valid-point-requires c κs = search needs
 is-removal-stage-in-range-requires : tie.Need-is-removal-stage-in-range-requires
 is-removal-stage-in-range-requires c κs = search needs
 
+are-steps-in-range-requires : tie.Need-are-steps-in-range-requires
+are-steps-in-range-requires c κs = search needs
+
 both-hold-requires : tie.Need-both-hold-requires
 both-hold-requires c κs = search needs
+
+both-hold-requires-2 : tie.Need-both-hold-requires-2
+both-hold-requires-2 c κs = search needs
 
 returns : tie.Need-returns
 unfolding removalInRange
@@ -23,5 +29,7 @@ is-removal-in-range-spec =
     (tie.spec
     is-valid-point-requires
     is-removal-stage-in-range-requires
+    are-steps-in-range-requires
     both-hold-requires
+    both-hold-requires-2
     returns)

@@ -2,7 +2,8 @@
 use mathlib.Core.Path.{_∙_, ap}
 use borrow.Author.Needs.{needs}
 use Rattle.record.specs.Parts.{withCount}
-use Rattle.effects.specs.Counts.{oneMore, counted}
+use Rattle.counting.specs.Counting.{oneMore}
+use Rattle.effects.specs.Counts.{counted}
 use Rattle.effects.proofs.counts.with_counted.Statement.{statement}
 use Rattle.effects.proofs.counts.with_counted.Tie as tie
 

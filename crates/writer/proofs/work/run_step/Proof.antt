@@ -1,7 +1,10 @@
 -- `writer::work::run_step` meets its contract: the three parts, one after the other.
+use Prim.Native.Nat.{ℕ}
 use mathlib.Core.Path.{_∙_, ap}
 use denote.Ref.{now}
 use borrow.Author.Needs.{needs}
+use Rattle.counting.specs.Steps.{stepsOf}
+use Rattle.answers.specs.Answers.{stepAnswer, paperProgress}
 use Rattle.effects.specs.Memory.{slotStored, accessRead, slotsAfter}
 use Rattle.writer.specs.Step.{workAdvance}
 use Rattle.writer.specs.Work.{afterAccess, workRuns}
@@ -20,6 +23,9 @@ slot-stored-requires c κs = search needs
 writer-advance-requires : tie.Need-writer-advance-requires
 writer-advance-requires c κs = search needs
 
+steps-of-requires : tie.Need-steps-of-requires
+steps-of-requires c κs = search needs
+
 result-of-requires : tie.Need-result-of-requires
 result-of-requires c κs = search needs
 
@@ -29,16 +35,17 @@ same-length c = search needs
 returns : tie.Need-returns
 unfolding afterAccess workRuns
 returns c =
-    let a = c .before .before .before .before .before .before .before .before .before .args in
+    let a = c .before .before .before .before .before .before .before .before .before .before .args in
     let s = now (a .slots) in
-    let access = c .before .before .before .before .before .before .before .writer-access .ensures in
-    let performed = c .before .before .before .before .before .perform .ensures in
-    let slot = c .before .before .slot-stored .ensures ∙ ap slotStored access in
+    let access = c .before .before .before .before .before .before .before .before .writer-access .ensures in
+    let performed = c .before .before .before .before .before .before .perform .ensures in
+    let slot = c .before .before .before .slot-stored .ensures ∙ ap slotStored access in
     let word = performed .0 ∙ ap (accessRead s) access in
-    let advance = c .before .writer-advance in
+    let advance = c .before .before .writer-advance in
     let effect = advance .ensures ∙ (λ j. workAdvance (a .k) (a .reach) (now (a .counts)) (a .work) (slot j) (word j)) in
-    (λ j. record { work = advance .result .work; update = advance .result .update; slots = performed .1 j; answer = c .result-of .ensures j })
-    ∙ (λ j. afterAccess (slotsAfter s (access j)) (effect j))
+    let answer = c .result-of .ensures ∙ ap (λ (steps : ℕ). stepAnswer steps (paperProgress (advance .result .progress))) (c .before .steps-of .ensures) in
+    (λ j. record { work = advance .result .work; update = advance .result .update; slots = performed .1 j; answer = answer j })
+    ∙ (λ j. afterAccess (slotsAfter s (access j)) (stepsOf (a .work)) (effect j))
 
 pub run-step-spec : {M : Type 1} → statement M
 run-step-spec =
@@ -48,6 +55,7 @@ run-step-spec =
     perform-requires
     slot-stored-requires
     writer-advance-requires
+    steps-of-requires
     result-of-requires
     same-length
     returns)

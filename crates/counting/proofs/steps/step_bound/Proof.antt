@@ -1,0 +1,61 @@
+-- `counting::steps::step_bound` meets its contract, case by case.
+use borrow.Author.Needs.{needs}
+use Rattle.counting.proofs.steps.step_bound.Statement.{statement}
+use Rattle.counting.proofs.steps.step_bound.Tie as tie
+
+enum-told : tie.Need-enum-told
+enum-told c = search needs
+
+add-result : tie.Need-add-result
+add-result c = search needs
+
+enum-told-2 : tie.Need-enum-told-2
+enum-told-2 c = search needs
+
+mul-result : tie.Need-mul-result
+mul-result c = search needs
+
+add-result-2 : tie.Need-add-result-2
+add-result-2 c = search needs
+
+enum-told-3 : tie.Need-enum-told-3
+enum-told-3 c = search needs
+
+add-result-3 : tie.Need-add-result-3
+add-result-3 c = search needs
+
+enum-told-4 : tie.Need-enum-told-4
+enum-told-4 c = search needs
+
+add-result-4 : tie.Need-add-result-4
+add-result-4 c = search needs
+
+returns : tie.Need-returns
+returns c = cc
+
+returns-2 : tie.Need-returns-2
+returns-2 c = cc
+
+returns-3 : tie.Need-returns-3
+returns-3 c = cc
+
+returns-4 : tie.Need-returns-4
+returns-4 c = cc
+
+pub step-bound-spec : {M : Type 1} → statement M
+step-bound-spec =
+    tie.close
+    (tie.spec
+    enum-told
+    add-result
+    enum-told-2
+    mul-result
+    add-result-2
+    enum-told-3
+    add-result-3
+    enum-told-4
+    add-result-4
+    returns
+    returns-2
+    returns-3
+    returns-4)

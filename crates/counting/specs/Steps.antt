@@ -55,8 +55,8 @@ writerCounted k (Changing change) = Changing (changeCounted k change)
 writerCounted k (Removing removal) = Removing (removalCounted k removal)
 
 -- the steps that the writer's operation has made; without work there are none
-abbrev pub stepsOf : WriterWork → ℕ
-stepsOf WriterWork·Idle = 0
-stepsOf (Putting put) = put .steps
-stepsOf (Changing change) = change .steps
-stepsOf (Removing removal) = removal .steps
+abbrev pub stepsMade : WriterWork → ℕ
+stepsMade WriterWork·Idle = 0
+stepsMade (Putting put) = put .steps
+stepsMade (Changing change) = change .steps
+stepsMade (Removing removal) = removal .steps

@@ -2,7 +2,7 @@
 // readers and once for the writer.
 ghost use Prim.Native.Nat.{min};
 ghost use mathlib.Core.Path.{_≡_};
-ghost use Rattle.counting.specs.Steps.{stepBound, stepCounted, lookupCounted, readerCounted, putCounted, changeCounted, removalCounted, writerCounted, stepsOf};
+ghost use Rattle.counting.specs.Steps.{stepBound, stepCounted, lookupCounted, readerCounted, putCounted, changeCounted, removalCounted, writerCounted, stepsMade};
 use crate::one_more;
 use record::Change;
 use record::Lookup;
@@ -120,8 +120,8 @@ pub fn writer_counted(work: WriterWork, k: u32) -> WriterWork
 }
 
 // The steps that the writer's operation has made; without work there are none.
-pub fn steps_of(work: WriterWork) -> u32
-    ensures { λ r. ⌜ r ≡ stepsOf work ⌝ }
+pub fn steps_made(work: WriterWork) -> u32
+    ensures { λ r. ⌜ r ≡ stepsMade work ⌝ }
 {
     match work {
         WriterWork::Idle => 0,

@@ -17,7 +17,7 @@ use Rattle.record.specs.declared.ReaderWork.{ReaderWork}
 use Rattle.record.specs.declared.ReaderWork.the-variants.{Idle, LookingUp, Walking}
 use Rattle.record.specs.Parts.{workOf, withWork, withReaders, withReach, withCounts, withStations, withWriter, withPlace, numberedPlace}
 use Rattle.record.specs.Idle.{isReaderIdle, isWriterIdle}
-use Rattle.counting.specs.Steps.{readerCounted, stepsOf}
+use Rattle.counting.specs.Steps.{readerCounted, stepsMade}
 use Rattle.record_ranges.specs.Ranges.{inRange}
 use Rattle.record_ranges.proofs.Laws.{fields}
 use Rattle.answers.specs.declared.StepResult.{StepResult}
@@ -86,7 +86,7 @@ module _ (panel : Record) (slots : List ℕ) (fits : inRange (length slots) pane
   writer-given busy =
       let access = writerAccess panel (countedWork panel) in
       ap (λ (o : Outcome). isRefused (o .answer)) (allowed panel slots fits busy)
-      ∙ progress-given (stepsOf (countedWork panel)) (writerAdvance panel (countedWork panel) (slotStored access) (accessRead slots access) .progress)
+      ∙ progress-given (stepsMade (countedWork panel)) (writerAdvance panel (countedWork panel) (slotStored access) (accessRead slots access) .progress)
 
   -- nobody is due only if nobody is at work
   all-idle : partyServed panel ≡ nobody → (party : ℕ) → party ≤ 16 → isAtWork panel party ≡ false

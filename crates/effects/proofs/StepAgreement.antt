@@ -25,7 +25,7 @@ use Rattle.record.specs.declared.RemovalStage.{RemovalStage}
 use Rattle.record.specs.declared.RemovalStage.the-variants.{Searching as RemovalStage·Searching, Found as RemovalStage·Found, Lowering}
 use Rattle.record.specs.declared.WriterWork.{WriterWork}
 use Rattle.record.specs.declared.WriterWork.the-variants.{Idle, Putting, Changing, Removing}
-use Rattle.counting.specs.Steps.{stepsOf}
+use Rattle.counting.specs.Steps.{stepsMade}
 use Rattle.answers.specs.Answers.{Ending, removed, continues, finishes, storedAnswer}
 use Rattle.plain_list.specs.PlainList.{Rows, absent, present, entryOf, largestIndex, Told}
 use Rattle.plain_list.proofs.RowLaws.{present≢absent, Steady}
@@ -133,10 +133,10 @@ module _ (panel : Record) (slots : List ℕ) (access : WriterAccess) (effect : W
   -- what a step of this work may come to, where the plain list says `told` if it is fed now
   pub data StepOK (rows : Rows) (told : Told) (work : WriterWork) : Type 0 where
     -- it stores no slot, and the operation goes on
-    goes-on : storesSlot access ≡ false → fedBy work ≡ 0 → fedBy (effect .work) ≡ 0 → begun (effect .work) ≡ begun work → stepsOf (effect .work) ≡ stepsOf work → isWriterIdle (effect .work) ≡ false → effect .progress ≡ continues → Leaves → After rows → StepOK rows told work
+    goes-on : storesSlot access ≡ false → fedBy work ≡ 0 → fedBy (effect .work) ≡ 0 → begun (effect .work) ≡ begun work → stepsMade (effect .work) ≡ stepsMade work → isWriterIdle (effect .work) ≡ false → effect .progress ≡ continues → Leaves → After rows → StepOK rows told work
     -- it is the operation's last, and the first that feeds the list
     ends-fed : fedBy work ≡ 0 → effect .work ≡ Idle → effect .progress ≡ finishes (told .answer) → Steady rows (told .rows) → Recorded (panel .stations) (updated panel (effect .update) .stations) (told .answer) work → After (told .rows) → StepOK rows told work
     -- it stores the slot, and the reach is still to be lowered
-    empties : storesSlot access ≡ true → fedBy work ≡ 0 → fedBy (effect .work) ≡ 1 → begun (effect .work) ≡ begun work → stepsOf (effect .work) ≡ stepsOf work → isWriterIdle (effect .work) ≡ false → effect .progress ≡ continues → told .answer ≡ removed (largestIndex (panel .m) (panel .k) (told .rows)) → Steady rows (told .rows) → Leaves → After (told .rows) → StepOK rows told work
+    empties : storesSlot access ≡ true → fedBy work ≡ 0 → fedBy (effect .work) ≡ 1 → begun (effect .work) ≡ begun work → stepsMade (effect .work) ≡ stepsMade work → isWriterIdle (effect .work) ≡ false → effect .progress ≡ continues → told .answer ≡ removed (largestIndex (panel .m) (panel .k) (told .rows)) → Steady rows (told .rows) → Leaves → After (told .rows) → StepOK rows told work
     -- it lowers the reach of a list that has been fed
     lowers : storesSlot access ≡ false → fedBy work ≡ 1 → effect .work ≡ Idle → effect .progress ≡ finishes (removed (largestIndex (panel .m) (panel .k) rows)) → Leaves → After rows → StepOK rows told work

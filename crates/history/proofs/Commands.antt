@@ -19,6 +19,7 @@ use Rattle.record.specs.declared.WriterWork.{WriterWork}
 use Rattle.record.specs.declared.WriterWork.the-variants.{Idle, Putting, Changing, Removing}
 use Rattle.record.specs.Parts.{unheardStation, numbered, withNumbered}
 use Rattle.record.proofs.Numbered.{replaced-length, replaced-same, replaced-other}
+use Rattle.counting.specs.Steps.{changeCounted, writerCounted}
 use Rattle.answers.specs.Answers.{Ending, storedAnswer}
 use Rattle.plain_list.specs.PlainList.{Each}
 use Rattle.effects.proofs.StepAgreement.{begun, fedBy, isCommanded, isCommand}
@@ -52,6 +53,13 @@ command-begun (Removing removal) = refl
 not-commanded : (point : ℕ) (alteration : Alteration) → isCommanded alteration ≡ false → alteredBy point alteration ≡ []
 not-commanded point (Alteration·Given masks) e = refl
 not-commanded point (Commanded command) e = let z : _≡_ {A = ℕ} 0 1 = cc in absurd (omega arith)
+
+pub command-counted : (k : ℕ) (work : WriterWork) → commandOf (writerCounted k work) ≡ commandOf work
+unfolding commandOf writerCounted changeCounted
+command-counted k Idle = refl
+command-counted k (Putting put) = refl
+command-counted k (Changing change) = refl
+command-counted k (Removing removal) = refl
 
 pub no-command-of : (work : WriterWork) → isCommand work ≡ false → commandOf work ≡ []
 unfolding commandOf

@@ -35,23 +35,23 @@ use Rattle.history.proofs.Turns.{TurnsOK, Made, reader-starts, writer-s
 -- a step that is answered right was carried out, and is no turn by itself
 party-carried : (m k : ℕ) (before after : World) (party : ℕ) (answer : Answer) → PartyRight m k before after party answer → isRefused answer ≡ false
 party-carried m k before after zero answer (writer-underway left) = refl
-party-carried m k before after zero answer (writer-ended ending right) = refl
+party-carried m k before after zero answer (writer-ended completion right) = refl
 party-carried m k before after (suc reader) answer right = given right
   where
     given : {slots : List ℕ} {rows : _} {notes : ReaderNotes} {reading : Reading} {a : Answer} → ReaderRight m k slots rows notes reading a → isRefused a ≡ false
     given (lookup-underway left) = refl
-    given (lookup-ended ending right) = refl
+    given (lookup-ended completion right) = refl
     given (walk-underway word right more) = refl
     given (walk-ended word right all once) = refl
 
 party-direct : (m k : ℕ) (before after : World) (party : ℕ) (answer : Answer) → PartyRight m k before after party answer → servedBy answer ≡ []
 party-direct m k before after zero answer (writer-underway left) = refl
-party-direct m k before after zero answer (writer-ended ending right) = refl
+party-direct m k before after zero answer (writer-ended completion right) = refl
 party-direct m k before after (suc reader) answer right = given right
   where
     given : {slots : List ℕ} {rows : _} {notes : ReaderNotes} {reading : Reading} {a : Answer} → ReaderRight m k slots rows notes reading a → servedBy a ≡ []
     given (lookup-underway left) = refl
-    given (lookup-ended ending right) = refl
+    given (lookup-ended completion right) = refl
     given (walk-underway word right more) = refl
     given (walk-ended word right all once) = refl
 

@@ -18,6 +18,7 @@ use Rattle.record.specs.Parts.{idleReader, unheardStation, freshRecord, workOf,
 use Rattle.record_ranges.specs.Ranges.{sizesInRange, inRange}
 use Rattle.record_ranges.proofs.Laws.{fresh-in-range}
 use Rattle.conditions.proofs.ConditionLaws.{both-true, is-within}
+use Rattle.counting.specs.Steps.{stepsMade}
 use Rattle.answers.specs.Answers.{removed, gives, storedAnswer, outcome}
 use Rattle.fresh_panel.specs.FreshPanel.{makeFresh}
 use Rattle.slot_words.specs.Taken.{takenSlots}
@@ -30,7 +31,7 @@ use Rattle.effects.proofs.StepAgreement.{WorkOK, fedBy}
 use Rattle.writer.proofs.WriterAgreement.{operationOf}
 use Rattle.history.specs.Log.{Writing, writing, freshLog, lastGiven}
 use Rattle.history.specs.World.{WriterNotes, noWriterNotes, noReaderNotes, World, freshWorld}
-use Rattle.history.specs.Claim.{times, sents, stepBound}
+use Rattle.history.specs.Claim.{times, sents, writingBound}
 use Rattle.history.proofs.Readers.{ReaderOK, readingOf}
 use Rattle.history.proofs.Commands.{commandOf, heldBy, CommandsOK}
 
@@ -40,7 +41,7 @@ pub record WriterOK (m k reach : ℕ) (rows : Rows) (underway : Writing) (notes 
   pub command : underway .command ≡ commandOf work
   pub feeds : notes .feeds ≡ fedBy work
   pub told : fedBy work ≡ 1 → notes .told ≡ removed (largestIndex m k rows)
-  pub left : notes .steps + writerLeft k reach work ≤ stepBound k (underway .operation)
+  pub left : notes .steps + writerLeft k reach work ≤ writingBound k (underway .operation)
 
 pub record Inv (m k : ℕ) (world : World) : Type 0 where
   pub m-is : world .panel .m ≡ m
@@ -50,6 +51,8 @@ pub record Inv (m k : ℕ) (world : World) : Type 0 where
   pub agrees : Agrees m k (world .panel .reach) (world .panel .counts) (world .slots) (world .rows)
   pub work : WorkOK m k (world .panel .reach) (world .slots) (world .rows) (world .panel .writer .work)
   pub writer : WriterOK m k (world .panel .reach) (world .rows) (world .log .writer) (world .writer) (world .panel .writer .work)
+  -- the steps that the writer's work counts are those noted
+  pub counted : stepsMade (world .panel .writer .work) ≡ world .writer .steps
   pub reading : (n : ℕ) → world .log .readers n ≡ readingOf (workOf (world .panel) n)
   pub readers : (n : ℕ) → ReaderOK m k (world .rows) (world .readers n) (workOf (world .panel) n)
   pub commands : CommandsOK (world .panel .stations) (commandOf (world .panel .writer .work)) (world .acts) (world .log .ended)
@@ -58,7 +61,7 @@ pub record Inv (m k : ℕ) (world : World) : Type 0 where
 
 -- a writer without work, of which nothing is noted
 pub idle-noted : (m k reach : ℕ) (rows : Rows) → WriterOK m k reach rows (writing nothing []) noWriterNotes Idle
-unfolding noWriterNotes operationOf commandOf stepBound writerLeft
+unfolding noWriterNotes operationOf commandOf writingBound writerLeft
 idle-noted m k reach rows =
     record { operation = refl; command = refl; feeds = refl; told = λ fed. absurd (omega arith); left = omega arith }
 
@@ -134,7 +137,7 @@ module _ (m k : ℕ) (m-low : 1 ≤ m) (m-high : m ≤ 4096) (k-low : 1 ≤ k) (
   all-idle n = ap (λ (r : Reader). r .work) (replicated 16 n idleReader)
 
   pub fresh-inv : Inv m k (freshWorld m k)
-  unfolding freshWorld freshRecord freshLog commandOf
+  unfolding freshWorld freshRecord freshLog commandOf noWriterNotes
   fresh-inv =
       record {
         m-is = refl;
@@ -144,6 +147,7 @@ module _ (m k : ℕ) (m-low : 1 ≤ m) (m-high : m ≤ 4096) (k-low : 1 ≤ k) (
         agrees = fresh-agrees;
         work = inl refl;
         writer = idle-noted m k 0 [];
+        counted = refl;
         reading = λ n. sym (ap readingOf (all-idle n));
         readers = λ n. subst (λ (w : ReaderWork). ReaderOK m k [] noReaderNotes w) (sym (all-idle n)) refl;
         commands = fresh-commands;

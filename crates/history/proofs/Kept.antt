@@ -90,6 +90,7 @@ module _ (world : World) (inv : Inv (world .panel .m) (world .panel .k) world) w
         agrees = inv .agrees;
         work = inv .work;
         writer = inv .writer;
+        counted = inv .counted;
         reading = inv .reading;
         readers = still;
         commands = inv .commands;

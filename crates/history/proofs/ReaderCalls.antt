@@ -8,26 +8,24 @@ use borrow.Author.Tests.{eqb-true, eqb-false, eq-eqb, ltb-false, lt-ltb, not-fal
 use lib.Dec.{eqb, ltb}
 use lib.ListN.{length, length-set}
 use Rattle.conditions.specs.Conditions.{both, either}
-use Rattle.conditions.proofs.ConditionLaws.{both-true}
 use Rattle.refusal.specs.Judging.{refuseIf}
 use Rattle.refusal.proofs.Laws.{not-refused}
 use Rattle.record.specs.declared.Record.{Record}
-use Rattle.record.specs.declared.Search.the-variants.{Unread}
 use Rattle.record.specs.declared.ReaderWork.{ReaderWork}
 use Rattle.record.specs.declared.ReaderWork.the-variants.{Idle, LookingUp, Walking}
 use Rattle.record.specs.Parts.{workOf, withWork, withReaders}
 use Rattle.record.proofs.WorkLaws.{work-replaced, others-stay}
 use Rattle.record.specs.Idle.{isReaderIdle}
 use Rattle.slot_words.specs.Points.{validPoint}
-use Rattle.work_ranges.specs.WorkRanges.{searchInRange, lookupInRange, workInRange}
+use Rattle.work_ranges.specs.WorkRanges.{workInRange}
 use Rattle.record_ranges.specs.Ranges.{inRange}
 use Rattle.record_ranges.proofs.Laws.{fields, sizes-in-range, work-in-range, with-work-in-range}
 use Rattle.answers.specs.Answers.{started, hasEnded, isRefused, outcome}
-use Rattle.search.specs.Access.{wordRead}
+use Rattle.counting.specs.Steps.{readerCounted}
 use Rattle.search.proofs.SearchLaws.{searchLeft}
-use Rattle.reader_step.specs.Reader.{readerAccess, ReaderEffect, readerAdvance, afterStep, readerRuns, workRefusal, stepRefusal, stepReader}
-use Rattle.reader_starts.specs.Starts.{lookupWorkRefusal, lookupRefusal, walkWorkRefusal, walkRefusal, startReader, startLookup, startWalk}
-use Rattle.reader_starts.proofs.ReaderLaws.{advances}
+use Rattle.reader_step.specs.Reader.{ReaderEffect, workRuns, afterStep, readerRuns, workRefusal, stepRefusal, stepReader}
+use Rattle.reader_starts.specs.Starts.{newLookup, newWalk, lookupWorkRefusal, lookupRefusal, walkWorkRefusal, walkRefusal, startReader, startLookup, startWalk}
+use Rattle.reader_starts.proofs.ReaderLaws.{steps-on, begun-fits}
 use Rattle.calls.specs.declared.Call.the-variants.{StartLookup, StartWalk, StepReader}
 use Rattle.history.specs.Log.{Reading, idle, lookingUp, walking, readerStart, roleOf, writingAfter, readingAfter, endedNow, placeMoved, logAfter}
 use Rattle.history.specs.World.{ReaderNotes, noReaderNotes, TurnNotes, World, storesNow, endsNow, feedsNow, rowsNow, writerNow, steppedReader, witnessed, readerNow, noted}
@@ -79,6 +77,7 @@ module _ (world : World) (inv : Inv (world .panel .m) (world .panel .k) world) w
         agrees = inv .agrees;
         work = inv .work;
         writer = inv .writer;
+        counted = inv .counted;
         reading = reading;
         readers = noted-ok;
         commands = inv .commands;
@@ -104,7 +103,7 @@ module _ (world : World) (inv : Inv (world .panel .m) (world .panel .k) world) w
   lookup-due reader point frame = rw (inv .fits, reader-is-idle world inv reader)
 
   pub lookup-kept : (reader point : ℕ) (frame : List ℕ) → Kept world (StartLookup reader point) frame (startLookup panel slots reader point)
-  unfolding startLookup startReader lookupRefusal lookupWorkRefusal roleOf noReaderNotes searchLeft workInRange lookupInRange searchInRange
+  unfolding startLookup startReader lookupRefusal lookupWorkRefusal roleOf noReaderNotes searchLeft workInRange
   lookup-kept reader point frame =
       judged world inv (StartLookup reader point) frame (lookupRefusal (length slots) panel reader point) _ (lookup-due reader point frame)
       (λ allowed.
@@ -114,10 +113,8 @@ module _ (world : World) (inv : Inv (world .panel .m) (world .panel .k) world) w
       let d = not-refused (not (isReaderIdle (workOf panel reader))) 4 0 (omega arith) (c .1) in
       record {
         inv =
-            start-inv reader (lookingUp point) (LookingUp (record { point = point; search = Unread })) (ltb-false 15 reader (b .0)) (not-false _ (d .0))
-            (both-true (validPoint point) true (not-false _ (c .0)) refl)
-            refl
-            (record { trail = tt; first = tt; left = omega arith });
+            start-inv reader (lookingUp point) (newLookup point) (ltb-false 15 reader (b .0)) (not-false _ (d .0)) (begun-fits k point (not-false _ (c .0))) refl
+            (record { trail = tt; first = tt; left = omega arith; counted = refl });
         carried-out = refl;
       })
 
@@ -136,7 +133,7 @@ module _ (world : World) (inv : Inv (world .panel .m) (world .panel .k) world) w
       let d = not-refused (not (isReaderIdle (workOf panel reader))) 4 0 (omega arith) (b .1) in
       record {
         inv =
-            start-inv reader walking (Walking (record { next = 0 })) (ltb-false 15 reader (b .0)) (not-false _ (d .0))
+            start-inv reader walking newWalk (ltb-false 15 reader (b .0)) (not-false _ (d .0))
             (lt-ltb 0 (panel .m) (omega (arith, sizes-in-range (length slots) panel (inv .fits) .m-low)))
             refl
             (record { steps = refl; first = λ z. refl; passed = λ some. absurd (omega arith) });
@@ -149,7 +146,7 @@ module _ (world : World) (inv : Inv (world .panel .m) (world .panel .k) world) w
     work = workOf panel reader
 
     abbrev effect : ReaderEffect
-    effect = readerAdvance m (panel .reach) work (wordRead slots (readerAccess m work))
+    effect = workRuns m (panel .reach) (readerCounted k work) slots
 
     right-step : StepRight m k slots (world .rows) (world .readers reader) work effect
     right-step =
@@ -157,9 +154,10 @@ module _ (world : World) (inv : Inv (world .panel .m) (world .panel .k) world) w
         (work-in-range (length slots) panel reader (inv .fits)) busy (inv .readers reader)
 
     effect-fits : inRange (length slots) (withWork panel reader (effect .work)) ≡ true
+    unfolding workRuns
     effect-fits =
         with-work-in-range (length slots) panel (inv .fits) reader (effect .work)
-        (advances m k (panel .reach) work _ (fields (length slots) panel (inv .fits) .reach-fits) (work-in-range (length slots) panel reader (inv .fits)) .in-range)
+        (steps-on m k (panel .reach) work _ (inv .agrees .few-indices) (fields (length slots) panel (inv .fits) .reach-fits) (work-in-range (length slots) panel reader (inv .fits)) .in-range)
 
     -- what the log and the notes say of the readers, by whether the step was refused and whether it ended the operation
     abbrev readings-by : Bool → ℕ → Reading

@@ -12,12 +12,16 @@ use lib.Dec.{eqb, ltb}
 use lib.ListN.{getD}
 use Rattle.conditions.proofs.ConditionLaws.{both-left, both-right, cond-holds}
 use Rattle.slot_words.specs.Word.{pointOf}
+use Rattle.record.specs.declared.Lookup.{Lookup}
 use Rattle.record.specs.declared.Walk.{Walk}
 use Rattle.record.specs.declared.Search.{Search}
 use Rattle.record.specs.declared.Search.the-variants.{Unread, Probing}
 use Rattle.record.specs.declared.ReaderWork.{ReaderWork}
 use Rattle.record.specs.declared.ReaderWork.the-variants.{Idle, LookingUp, Walking}
 use Rattle.slot_words.specs.Points.{validPoint}
+use Rattle.counting.specs.declared.steps.OperationKind.the-variants.{Lookup as Kind·Lookup}
+use Rattle.counting.specs.Steps.{stepBound, stepCounted, lookupCounted, readerCounted}
+use Rattle.counting.proofs.StepLaws.{counted-one}
 use Rattle.work_ranges.specs.WorkRanges.{searchInRange, lookupInRange, workInRange}
 use Rattle.answers.specs.Answers.{hasEnded, isRefused}
 use Rattle.plain_list.specs.PlainList.{Rows, Entry, absent, present, entryOf, lookupEntry, lookupRow, Each, Some, here, there}
@@ -31,7 +35,7 @@ use Rattle.search.specs.Search.{searchAccess, searchAdvance}
 use Rattle.search.proofs.SearchLaws.{searchLeft, some-left, searchedLeft, OneStep, search-step}
 use Rattle.search.proofs.TrailLaws.{Trail, Knows, search-knows, trail-after}
 use Rattle.record.specs.Idle.{isReaderIdle}
-use Rattle.reader_step.specs.Reader.{readerAccess, ReaderEffect, lookupEnding, lookupEffect, lookupAdvance, walkAdvance, readerAdvance}
+use Rattle.reader_step.specs.Reader.{readerAccess, ReaderEffect, lookupEnding, lookupEffect, lookupAdvance, walkAdvance, readerAdvance, workRuns}
 use Rattle.history.specs.Log.{Reading, idle, lookingUp, walking, servedBy}
 use Rattle.history.specs.World.{ReaderNotes, noReaderNotes, wordGiven, steppedReader, witnessed}
 use Rattle.history.specs.Claim.{WordRight, reports, ReportedOnce, ReaderRight, lookup-underway, lookup-ended, walk-underway, walk-ended}
@@ -45,10 +49,12 @@ abbrev pub FirstMade : Search → ℕ → Type 0
 FirstMade Unread steps = Unit {0}
 FirstMade (Probing probe) steps = 1 ≤ steps
 
-pub record LookingOK (m k : ℕ) (rows : Rows) (notes : ReaderNotes) (point : ℕ) (search : Search) : Type 0 where
+pub record LookingOK (m k : ℕ) (rows : Rows) (notes : ReaderNotes) (point : ℕ) (search : Search) (steps : ℕ) : Type 0 where
   pub trail : Trail (Missed point (notes .moments)) m k point rows search
   pub first : FirstMade search (notes .steps)
-  pub left : notes .steps + searchLeft k search ≤ k + 1
+  pub left : notes .steps + searchLeft k search ≤ stepBound Kind·Lookup k
+  -- the steps that the work counts are those noted
+  pub counted : steps ≡ notes .steps
 
 -- the point's row is at a place, and has been reported once if the walk is past it
 pub record Passed (q : ℕ) (rows : Rows) (next : ℕ) (words : List ℕ) : Type 0 where
@@ -65,7 +71,7 @@ pub record WalkingOK (rows : Rows) (notes : ReaderNotes) (next : ℕ) : Type 0 w
 -- a reader with this work
 abbrev pub ReaderOK : ℕ → ℕ → Rows → ReaderNotes → ReaderWork → Type 0
 ReaderOK m k rows notes Idle = notes ≡ noReaderNotes
-ReaderOK m k rows notes (LookingUp lookup) = LookingOK m k rows notes (lookup .point) (lookup .search)
+ReaderOK m k rows notes (LookingUp lookup) = LookingOK m k rows notes (lookup .point) (lookup .search) (lookup .steps)
 ReaderOK m k rows notes (Walking walk) = WalkingOK rows notes (walk .next)
 
 -- what a reader with this work has underway
@@ -93,19 +99,21 @@ module _ (notes : ReaderNotes) (rows : Rows) where
 
 -- a call of another party
 module _ (m k : ℕ) (rows after : Rows) (notes : ReaderNotes) (steady : Steady rows after) where
-  looking-on : (point : ℕ) (search : Search) → LookingOK m k rows notes point search → LookingOK m k after (witnessed notes after) point search
-  looking-on point Unread h =
+  looking-on : (point : ℕ) (search : Search) (steps : ℕ) → LookingOK m k rows notes point search steps → LookingOK m k after (witnessed notes after) point search steps
+  looking-on point Unread steps h =
       record {
         trail = tt;
         first = tt;
         left = omega (arith, h .left, steps-stay notes after);
+        counted = omega (arith, h .counted, steps-stay notes after);
       }
-  looking-on point (Probing probe) h =
-      subst (λ (n : ReaderNotes). LookingOK m k after n point (Probing probe)) (sym (moment-more notes after (h .first)))
+  looking-on point (Probing probe) steps h =
+      subst (λ (n : ReaderNotes). LookingOK m k after n point (Probing probe) steps) (sym (moment-more notes after (h .first)))
       (record {
         trail = trail-after (Missed point (notes .moments)) (Missed point (after ∷ notes .moments)) m k point rows after steady there here (Probing probe) (h .trail);
         first = h .first;
         left = h .left;
+        counted = h .counted;
       })
 
   passed-on : (q next : ℕ) → Missed q (notes .moments) ⊎ Passed q rows next (notes .words) → (entry : Entry) → entryOf q after ≡ entry → Missed q (after ∷ notes .moments) ⊎ Passed q after next (notes .words)
@@ -140,7 +148,7 @@ module _ (m k : ℕ) (rows after : Rows) (notes : ReaderNotes) (steady : Steady 
   pub reader-on : (work : ReaderWork) → ReaderOK m k rows notes work → ReaderOK m k after (witnessed notes after) work
   unfolding noReaderNotes
   reader-on Idle h = not-begun notes after (ap (λ (n : ReaderNotes). n .steps) h) ∙ h
-  reader-on (LookingUp lookup) h = looking-on (lookup .point) (lookup .search) h
+  reader-on (LookingUp lookup) h = looking-on (lookup .point) (lookup .search) (lookup .steps) h
   reader-on (Walking walk) h = walking-on (walk .next) h
 
 some-map : {A : Type 0} {P Q : A → Type 0} → ((x : A) → P x → Q x) → (l : List A) → Some P l → Some Q l
@@ -158,7 +166,13 @@ pub record StepRight (m k : ℕ) (slots : List ℕ) (rows : Rows) (notes : Reade
 
 module _ (m k reach : ℕ) (counts slots : List ℕ) (rows : Rows) (agrees : Agrees m k reach counts slots rows) (notes : ReaderNotes) where
   -- a lookup's step
-  module _ (point : ℕ) (search : Search) (valid : validPoint point ≡ true) (fits : searchInRange k search ≡ true) (ok : LookingOK m k rows notes point search) where
+  module _ (lookup : Lookup) (valid : validPoint (lookup .point) ≡ true) (fits : searchInRange k (lookup .search) ≡ true) (ok : LookingOK m k rows notes (lookup .point) (lookup .search) (lookup .steps)) where
+    abbrev point : ℕ
+    point = lookup .point
+
+    abbrev search : Search
+    search = lookup .search
+
     abbrev word : ℕ
     word = wordRead slots (searchAccess m point search)
 
@@ -174,11 +188,12 @@ module _ (m k reach : ℕ) (counts slots : List ℕ) (rows : Rows) (agrees : Agr
     first-made Unread = tt
     first-made (Probing probe) = omega arith
 
-    abbrev lookup : ReaderWork
-    lookup = LookingUp (record { point = point; search = search })
+    -- the step is counted as one more than those noted
+    one-counted : stepCounted Kind·Lookup k (lookup .steps) ≡ notes .steps + 1
+    one-counted = counted-one Kind·Lookup k (lookup .steps) (agrees .few-indices) (omega (arith, ok .counted, ok .left, some-left k search)) ∙ ap (λ (n : ℕ). n + 1) (ok .counted)
 
-    effect-right : (after : Searched) → Knows (Missed point moments) m k point rows after → OneStep k (searchLeft k search) after → StepRight m k slots rows notes lookup (lookupEffect point after)
-    unfolding lookupEffect lookupEnding steppedReader searchedLeft lookupRow lookupEntry
+    effect-right : (after : Searched) → Knows (Missed point moments) m k point rows after → OneStep k (searchLeft k search) after → StepRight m k slots rows notes (LookingUp lookup) (lookupEffect (lookupCounted k lookup) after)
+    unfolding lookupCounted lookupEffect lookupEnding steppedReader searchedLeft lookupRow lookupEntry
     effect-right (Going s) known one =
         record {
           ok =
@@ -186,6 +201,7 @@ module _ (m k reach : ℕ) (counts slots : List ℕ) (rows : Rows) (agrees : Agr
                 trail = known;
                 first = first-made s;
                 left = omega (arith, ok .left, one .less);
+                counted = one-counted;
               };
           right = lookup-underway (omega (arith, ok .left, one .less, some-left k s));
           reading = refl;
@@ -200,6 +216,7 @@ module _ (m k reach : ℕ) (counts slots : List ℕ) (rows : Rows) (agrees : Agr
               (record {
                 one-moment = here (sym (ap lookupEntry (known .found)));
                 in-time = omega (arith, ok .left, one .less);
+                counted = one-counted;
               });
           reading = refl;
           carried = refl;
@@ -213,13 +230,14 @@ module _ (m k reach : ℕ) (counts slots : List ℕ) (rows : Rows) (agrees : Agr
               (record {
                 one-moment = some-map (λ (then : Rows) e. sym (ap lookupEntry e)) moments known;
                 in-time = omega (arith, ok .left, one .less);
+                counted = one-counted;
               });
           reading = refl;
           carried = refl;
           direct = refl;
         }
 
-    pub lookup-right : StepRight m k slots rows notes lookup (lookupEffect point (searchAdvance reach point search word))
+    pub lookup-right : StepRight m k slots rows notes (LookingUp lookup) (lookupEffect (lookupCounted k lookup) (searchAdvance reach point search word))
     lookup-right = effect-right (searchAdvance reach point search word) knows (search-step k reach point search word (agrees .reach-high) fits)
 
   -- a walk's step
@@ -340,10 +358,10 @@ module _ (m k reach : ℕ) (counts slots : List ℕ) (rows : Rows) (agrees : Agr
         })
 
   -- a step of a reader at work
-  pub reader-right : (work : ReaderWork) → workInRange m k work ≡ true → isReaderIdle work ≡ false → ReaderOK m k rows notes work → StepRight m k slots rows notes work (readerAdvance m reach work (wordRead slots (readerAccess m work)))
-  unfolding workInRange lookupInRange readerAccess readerAdvance lookupAdvance wordRead
+  pub reader-right : (work : ReaderWork) → workInRange m k work ≡ true → isReaderIdle work ≡ false → ReaderOK m k rows notes work → StepRight m k slots rows notes work (workRuns m reach (readerCounted k work) slots)
+  unfolding workInRange lookupInRange readerCounted workRuns readerAccess readerAdvance lookupAdvance lookupCounted wordRead
   reader-right Idle fits busy ok = absurd (false≢true (sym busy))
   reader-right (LookingUp lookup) fits busy ok =
-      lookup-right (lookup .point) (lookup .search) (both-left (validPoint (lookup .point)) (searchInRange k (lookup .search)) fits)
-      (both-right (validPoint (lookup .point)) (searchInRange k (lookup .search)) fits) ok
+      lookup-right lookup (both-left (validPoint (lookup .point)) _ fits)
+      (both-left (searchInRange k (lookup .search)) _ (both-right (validPoint (lookup .point)) _ fits)) ok
   reader-right (Walking walk) fits busy ok = walk-right walk (ltb-true (walk .next) m fits) ok

@@ -89,6 +89,7 @@ module _ (world : World) (inv : Inv (world .panel .m) (world .panel .k) world) w
         agrees = i .agrees;
         work = i .work;
         writer = i .writer;
+        counted = i .counted;
         reading = i .reading;
         readers = i .readers;
         commands = i .commands;

@@ -8,32 +8,28 @@ use borrow.Author.Tests.{eqb-true, not-false}
 use lib.Dec.{eqb}
 use lib.ListN.{length}
 use Rattle.conditions.specs.Conditions.{both, either}
-use Rattle.conditions.proofs.ConditionLaws.{both-true}
 use Rattle.refusal.specs.Judging.{refuseIf, orElse}
 use Rattle.refusal.proofs.Laws.{not-refused}
 use Rattle.record.specs.declared.Record.{Record}
 use Rattle.record.specs.declared.Station.{Station}
-use Rattle.record.specs.declared.Search.the-variants.{Unread}
-use Rattle.record.specs.declared.PutStage.the-variants.{Searching as PutStage·Searching}
-use Rattle.record.specs.declared.Alteration.the-variants.{Given as Alteration·Given}
-use Rattle.record.specs.declared.ChangeStage.the-variants.{Searching as ChangeStage·Searching}
-use Rattle.record.specs.declared.RemovalStage.the-variants.{Searching as RemovalStage·Searching}
 use Rattle.record.specs.declared.WriterWork.{WriterWork}
 use Rattle.record.specs.declared.WriterWork.the-variants.{Idle, Putting, Changing, Removing}
 use Rattle.record.specs.Parts.{workOf, withWriter, stationOf}
 use Rattle.record.specs.Idle.{isWriterIdle}
 use Rattle.slot_words.specs.Points.{validPoint}
-use Rattle.work_ranges.specs.WorkRanges.{searchInRange, putStageInRange, putInRange, alterationInRange, changeStageInRange, changeInRange, removalStageInRange, removalInRange, writerInRange}
+use Rattle.work_ranges.specs.WorkRanges.{writerInRange}
 use Rattle.record_ranges.specs.Ranges.{inRange}
 use Rattle.record_ranges.proofs.Laws.{with-writer-in-range}
-use Rattle.answers.specs.Answers.{started, givenAgain, refused, storedAnswer, outcome, unlessRefused}
+use Rattle.counting.specs.Steps.{stepsMade}
+use Rattle.answers.specs.Answers.{completed, started, givenAgain, refused, storedAnswer, outcome, unlessRefused}
 use Rattle.plain_list.specs.PlainList.{put, change, removal, Each}
 use Rattle.plain_list.proofs.Agreement.{Tight}
 use Rattle.search.proofs.SearchLaws.{searchLeft}
 use Rattle.effects.proofs.EffectLaws.{putSearchLeft, putLeft, changeLeft, removalLeft, writerLeft}
 use Rattle.effects.proofs.StepAgreement.{WorkOK, fedBy}
 use Rattle.change.specs.Change.{masksOf}
-use Rattle.writer.specs.Starts.{workStartRefusal, startRefusal, startWriter, startPut, startChange, startRemoval}
+use Rattle.writer.specs.Starts.{workStartRefusal, startRefusal, startWriter, putBegun, changeBegun, removalBegun, startPut, startChange, startRemoval}
+use Rattle.writer.proofs.WriterLaws.{put-begun-fits, change-begun-fits, removal-begun-fits}
 use Rattle.writer.proofs.WriterAgreement.{operationOf}
 use Rattle.command.specs.declared.Sent.{Sent}
 use Rattle.command.specs.Command.{sentIn, frameRefusal, entryRefusal, commandedChange, changeStarts, numberEqual, numberOther, inTurn, startCommand}
@@ -41,7 +37,7 @@ use Rattle.command.proofs.CommandLaws.{Valid, frame-valid, change-in-range}
 use Rattle.calls.specs.declared.Call.the-variants.{StartPut, StartChange, StartRemoval, StartCommand}
 use Rattle.history.specs.Log.{Writing, writing, writerStart, asChange, roleOf, Given, writingAfter, readingAfter, endedNow, logAfter}
 use Rattle.history.specs.World.{World, storesNow, endsNow, feedsNow, rowsNow, writerNow, readerNow, noted}
-use Rattle.history.specs.Claim.{operationRefusal, lastEnded, numberRefusal, refusalDue, CommandRight, stepBound}
+use Rattle.history.specs.Claim.{operationRefusal, lastEnded, numberRefusal, refusalDue, CommandRight, writingBound}
 use Rattle.history.proofs.Commands.{commandOf, IsNext, heldBy, with-command}
 use Rattle.history.proofs.Invariant.{WriterOK, Inv}
 use Rattle.history.proofs.Kept.{Kept, writer-is-idle, still, waits, refused-kept, done-kept, judged}
@@ -70,7 +66,8 @@ module _ (world : World) (inv : Inv (world .panel .m) (world .panel .k) world) w
     is-operation : underway .operation ≡ operationOf work
     is-command : underway .command ≡ commandOf work
     unfed : fedBy work ≡ 0
-    bounded : writerLeft k (panel .reach) work ≤ stepBound k (underway .operation)
+    unmade : stepsMade work ≡ 0
+    bounded : writerLeft k (panel .reach) work ≤ writingBound k (underway .operation)
     in-order : Tight m k (panel .reach) (world .rows) → WorkOK m k (panel .reach) slots (world .rows) work
     in-turn : Each (IsNext (panel .stations)) (commandOf work)
 
@@ -81,8 +78,8 @@ module _ (world : World) (inv : Inv (world .panel .m) (world .panel .k) world) w
         subst (λ (w : WriterWork). WriterOK m k (panel .reach) (world .rows) (world .log .writer) (world .writer) w) (idle-is (panel .writer .work) idle) (inv .writer)
 
     no-steps : world .writer .steps ≡ 0
-    unfolding operationOf stepBound
-    no-steps = let bound = ap (stepBound k) (noted-idle .operation) in omega (arith, noted-idle .left, bound)
+    unfolding operationOf writingBound
+    no-steps = let bound = ap (writingBound k) (noted-idle .operation) in omega (arith, noted-idle .left, bound)
 
   -- the writer is given its work
   begun-inv : (underway : Writing) (work : WriterWork) → Fresh underway work → isWriterIdle (panel .writer .work) ≡ true → inRange (length slots) (withWriter panel work) ≡ true → Inv m k (noted world (writerStart underway) (outcome (withWriter panel work) slots started))
@@ -103,6 +100,7 @@ module _ (world : World) (inv : Inv (world .panel .m) (world .panel .k) world) w
               told = λ fed. absurd (omega (arith, fresh .unfed));
               left = omega (arith, fresh .bounded, no-steps idle);
             };
+        counted = omega (arith, fresh .unmade, no-steps idle);
         reading = inv .reading;
         readers = still world inv;
         commands = with-command (panel .stations) (commandOf (panel .writer .work)) (commandOf work) (world .acts) (world .log .ended) (inv .commands) (fresh .in-turn);
@@ -123,42 +121,41 @@ module _ (world : World) (inv : Inv (world .panel .m) (world .panel .k) world) w
       begun-inv underway work fresh (not-false _ (c .0)) (with-writer-in-range (length slots) panel (inv .fits) work (ranged (not-false _ (b .0))))
 
   pub put-kept : (point value : ℕ) (frame : List ℕ) → value < 4294967296 → Kept world (StartPut point value) frame (startPut panel slots point value)
-  unfolding startPut startWriter refusalDue roleOf operationOf commandOf writerLeft putLeft putSearchLeft searchLeft stepBound writerInRange putInRange putStageInRange searchInRange
+  unfolding startPut startWriter refusalDue roleOf operationOf commandOf writerLeft putLeft putSearchLeft searchLeft writingBound
   put-kept point value frame fits =
       judged world inv (StartPut point value) frame (startRefusal (length slots) panel point) _ (start-due point)
       (λ allowed.
       record {
         inv =
-            start-inv point (writing (put point value) []) (Putting (record { point = point; value = value; stage = PutStage·Searching Unread }))
-            (record { is-operation = refl; is-command = refl; unfed = refl; bounded = omega arith; in-order = λ tight. ((tt, tight), fits); in-turn = tt })
-            (λ valid. both-true (validPoint point) true valid refl) allowed;
+            start-inv point (writing (put point value) []) (putBegun point value)
+            (record { is-operation = refl; is-command = refl; unfed = refl; unmade = refl; bounded = omega arith; in-order = λ tight. ((tt, tight), fits); in-turn = tt })
+            (λ valid. put-begun-fits k point valid value) allowed;
         carried-out = refl;
       })
 
   pub change-kept : (point keep flip : ℕ) (frame : List ℕ) → flip < 4294967296 → Kept world (StartChange point keep flip) frame (startChange panel slots point keep flip)
-  unfolding startChange startWriter refusalDue roleOf operationOf commandOf masksOf writerLeft changeLeft searchLeft stepBound writerInRange changeInRange alterationInRange changeStageInRange searchInRange
+  unfolding startChange startWriter refusalDue roleOf operationOf commandOf masksOf writerLeft changeLeft searchLeft writingBound
   change-kept point keep flip frame fits =
       judged world inv (StartChange point keep flip) frame (startRefusal (length slots) panel point) _ (start-due point)
       (λ allowed.
       record {
         inv =
-            start-inv point (writing (change point keep flip) [])
-            (Changing (record { point = point; alteration = Alteration·Given (record { keep = keep; flip = flip }); stage = ChangeStage·Searching Unread }))
-            (record { is-operation = refl; is-command = refl; unfed = refl; bounded = omega arith; in-order = λ tight. ((tt, tight), fits); in-turn = tt })
-            (λ valid. both-true (validPoint point) (both true true) valid (both-true true true refl refl)) allowed;
+            start-inv point (writing (change point keep flip) []) (changeBegun point keep flip)
+            (record { is-operation = refl; is-command = refl; unfed = refl; unmade = refl; bounded = omega arith; in-order = λ tight. ((tt, tight), fits); in-turn = tt })
+            (λ valid. change-begun-fits k point valid keep flip) allowed;
         carried-out = refl;
       })
 
   pub removal-kept : (point : ℕ) (frame : List ℕ) → Kept world (StartRemoval point) frame (startRemoval panel slots point)
-  unfolding startRemoval startWriter refusalDue roleOf operationOf commandOf writerLeft removalLeft searchLeft stepBound writerInRange removalInRange removalStageInRange searchInRange
+  unfolding startRemoval startWriter refusalDue roleOf operationOf commandOf writerLeft removalLeft searchLeft writingBound
   removal-kept point frame =
       judged world inv (StartRemoval point) frame (startRefusal (length slots) panel point) _ (start-due point)
       (λ allowed.
       record {
         inv =
-            start-inv point (writing (removal point) []) (Removing (record { point = point; stage = RemovalStage·Searching Unread }))
-            (record { is-operation = refl; is-command = refl; unfed = refl; bounded = omega arith; in-order = λ tight. (tt, tight); in-turn = tt })
-            (λ valid. both-true (validPoint point) true valid refl) allowed;
+            start-inv point (writing (removal point) []) (removalBegun point)
+            (record { is-operation = refl; is-command = refl; unfed = refl; unmade = refl; bounded = omega arith; in-order = λ tight. (tt, tight); in-turn = tt })
+            (λ valid. removal-begun-fits k point valid) allowed;
         carried-out = refl;
       })
 
@@ -193,13 +190,14 @@ module _ (world : World) (inv : Inv (world .panel .m) (world .panel .k) world) w
       valid = frame-valid bytes taken
 
       starts : eqb (sent .number) (last .number + 1) ≡ true → isWriterIdle (panel .writer .work) ≡ true → Inv m k (noted world (writerStart (writing (asChange sent) (sent ∷ []))) (outcome (withWriter panel (commandedChange sent)) slots started))
-      unfolding asChange operationOf commandOf masksOf writerLeft changeLeft searchLeft stepBound stationOf
+      unfolding asChange operationOf commandOf masksOf writerLeft changeLeft searchLeft writingBound stationOf
       starts next idle =
           begun-inv (writing (asChange sent) (sent ∷ [])) (commandedChange sent)
           (record {
             is-operation = refl;
             is-command = refl;
             unfed = refl;
+            unmade = refl;
             bounded = omega arith;
             in-order = λ tight. ((tt, tight), tt);
             in-turn = (record { station-low = valid .station-low; station-high = valid .station-high; next = eqb-true (sent .number) (last .number + 1) next }, tt);
@@ -222,19 +220,19 @@ module _ (world : World) (inv : Inv (world .panel .m) (world .panel .k) world) w
       by-next other false e = refused-kept world inv StartCommand bytes 10 (due-by false _ false _ other refl e refl)
 
       -- the stored answer given again
-      again-inv : Inv m k (noted world (roleOf StartCommand bytes (givenAgain (storedAnswer (last .answer)))) (outcome panel slots (givenAgain (storedAnswer (last .answer)))))
+      again-inv : Inv m k (noted world (roleOf StartCommand bytes (givenAgain (completed (storedAnswer (last .answer)) 0))) (outcome panel slots (givenAgain (completed (storedAnswer (last .answer)) 0))))
       unfolding roleOf noted rowsNow feedsNow storesNow endsNow writerNow readerNow logAfter writingAfter readingAfter endedNow either both
       again-inv = waits world inv _
 
-      by-content : eqb (sent .number) (last .number) ≡ true → (same : Bool) → both (eqb (sent .point) (last .point)) (eqb (sent .action) (last .action)) ≡ same → Kept world StartCommand bytes (cond same (outcome panel slots (givenAgain (storedAnswer (last .answer)))) (outcome panel slots (refused 12)))
+      by-content : eqb (sent .number) (last .number) ≡ true → (same : Bool) → both (eqb (sent .point) (last .point)) (eqb (sent .action) (last .action)) ≡ same → Kept world StartCommand bytes (cond same (outcome panel slots (givenAgain (completed (storedAnswer (last .answer)) 0))) (outcome panel slots (refused 12)))
       unfolding refuseIf noted
       by-content equal true e =
           done-kept world inv StartCommand bytes _ (due-by true true _ _ equal e refl refl)
           (record {
             inv = again-inv;
             carried-out =
-                subst (λ (b : Bool). CommandRight b (lastEnded (world .log) sent .answer) world (noted world (roleOf StartCommand bytes (givenAgain (storedAnswer (last .answer)))) (outcome panel slots (givenAgain (storedAnswer (last .answer))))) (givenAgain (storedAnswer (last .answer)))) (sym (number-is true equal))
-                (ap (λ (given : Given). givenAgain (given .answer)) (sym last-is), record { record-stays = refl; slots-stay = refl });
+                subst (λ (b : Bool). CommandRight b (lastEnded (world .log) sent .answer) world (noted world (roleOf StartCommand bytes (givenAgain (completed (storedAnswer (last .answer)) 0))) (outcome panel slots (givenAgain (completed (storedAnswer (last .answer)) 0)))) (givenAgain (completed (storedAnswer (last .answer)) 0))) (sym (number-is true equal))
+                (ap (λ (given : Given). givenAgain (completed (given .answer) 0)) (sym last-is), record { record-stays = refl; slots-stay = refl });
           })
       by-content equal false e = refused-kept world inv StartCommand bytes 11 (due-by true false _ _ equal e refl refl)
 

@@ -11,7 +11,9 @@ use Rattle.conditions.specs.Conditions.{both}
 use Rattle.refusal.specs.Judging.{refuseIf, orElse}
 use Rattle.slot_words.specs.Points.{validPoint}
 use Rattle.slot_words.specs.Word.{pointOf, valueOf}
-use Rattle.answers.specs.Answers.{Ending, Answer, started, underway, ended, walked, walkedLast, served, givenAgain, refused, isRefused}
+use Rattle.counting.specs.declared.steps.OperationKind.the-variants.{Lookup, Put, Change, Removal}
+use Rattle.counting.specs.Steps.{stepBound}
+use Rattle.answers.specs.Answers.{Ending, Completion, completed, Answer, started, underway, ended, walked, walkedLast, served, givenAgain, refused, isRefused}
 use Rattle.plain_list.specs.PlainList.{Rows, absent, present, entryOf, lookupRow, Operation, nothing, put, change, removal, Each, Some, Shows}
 use Rattle.command.specs.declared.Sent.{Sent}
 use Rattle.command.specs.Command.{sentIn, frameRefusal}
@@ -54,15 +56,16 @@ pub record Untouched (before after : World) : Type 0 where
   pub record-stays : after .panel ≡ before .panel
   pub slots-stay : after .slots ≡ before .slots
 
--- a command that is not refused: "Number equal to the last ..: the stored answer is given again and nothing is altered", "an answer given again is the one its change gave"; or "the change starts"
+-- a command that is not refused: "Number equal to the last ..: the stored answer is given again and nothing is altered", "an answer given again is the one its change gave", and it "counts 0"; or "the change starts"
 abbrev pub CommandRight : Bool → Ending → World → World → Answer → Type 0
-CommandRight true stored before after answer = (answer ≡ givenAgain stored) × Untouched before after
+CommandRight true stored before after answer = (answer ≡ givenAgain (completed stored 0)) × Untouched before after
 CommandRight false stored before after answer = answer ≡ started
 
--- "every lookup that has ended, one that the plain list gives after some call from its first step to its last"; it takes at most k + 1 steps
-pub record LookupRight (k point : ℕ) (notes : ReaderNotes) (ending : Ending) : Type 0 where
-  pub one-moment : Some (λ (rows : Rows). ending ≡ lookupRow point rows) (notes .moments)
-  pub in-time : notes .steps ≤ k + 1
+-- "every lookup that has ended, one that the plain list gives after some call from its first step to its last"; within the bound; it "gives the number of steps it took"
+pub record LookupRight (k point : ℕ) (notes : ReaderNotes) (completion : Completion) : Type 0 where
+  pub one-moment : Some (λ (rows : Rows). completion .ending ≡ lookupRow point rows) (notes .moments)
+  pub in-time : notes .steps ≤ stepBound Lookup k
+  pub counted : completion .steps ≡ notes .steps
 
 -- "each walk step gives the word read"; "each report was true when read", a report being a word that is not 0
 pub record WordRight (slots : List ℕ) (rows : Rows) (slot word : ℕ) : Type 0 where
@@ -80,28 +83,29 @@ ReportedOnce notes = (point : ℕ) → Each (λ (rows : Rows). entryOf point row
 
 -- a reader's step is answered by what the reader has underway, with one of these answers, and then this holds; a walk reads "slots 0 to m − 1, one a step, m steps"
 pub data ReaderRight (m k : ℕ) (slots : List ℕ) (rows : Rows) (notes : ReaderNotes) : Reading → Answer → Type 0 where
-  lookup-underway : {point : ℕ} → notes .steps ≤ k → ReaderRight m k slots rows notes (lookingUp point) underway
-  lookup-ended : {point : ℕ} (ending : Ending) → LookupRight k point notes ending → ReaderRight m k slots rows notes (lookingUp point) (ended ending)
+  lookup-underway : {point : ℕ} → notes .steps < stepBound Lookup k → ReaderRight m k slots rows notes (lookingUp point) underway
+  lookup-ended : {point : ℕ} (completion : Completion) → LookupRight k point notes completion → ReaderRight m k slots rows notes (lookingUp point) (ended completion)
   walk-underway : (word : ℕ) → WordRight slots rows (notes .steps - 1) word → notes .steps < m → ReaderRight m k slots rows notes walking (walked word)
   walk-ended : (word : ℕ) → WordRight slots rows (notes .steps - 1) word → notes .steps ≡ m → ReportedOnce notes → ReaderRight m k slots rows notes walking (walkedLast word)
 
--- a put: "At most 2k + 2 steps"; a change: "At most k + 2"; a removal: "At most k + 3"
-unfoldable pub stepBound : ℕ → Operation → ℕ
-stepBound k nothing = 0
-stepBound k (put point value) = 2 * k + 2
-stepBound k (change point keep flip) = k + 2
-stepBound k (removal point) = k + 3
+-- the steps that the writer's operation may take
+unfoldable pub writingBound : ℕ → Operation → ℕ
+writingBound k nothing = 0
+writingBound k (put point value) = stepBound Put k
+writingBound k (change point keep flip) = stepBound Change k
+writingBound k (removal point) = stepBound Removal k
 
--- "Every put, change or removal that has ended gave the answer above": what the plain list answered when it was fed, once; within the bound
-pub record Ended (k : ℕ) (operation : Operation) (notes : WriterNotes) (ending : Ending) : Type 0 where
-  pub as-told : ending ≡ notes .told
+-- "Every put, change or removal that has ended gave the answer above": what the plain list answered when it was fed, once; within the bound; it "gives the number of steps it took"
+pub record Ended (k : ℕ) (operation : Operation) (notes : WriterNotes) (completion : Completion) : Type 0 where
+  pub as-told : completion .ending ≡ notes .told
   pub fed-once : notes .feeds ≡ 1
-  pub in-time : notes .steps ≤ stepBound k operation
+  pub in-time : notes .steps ≤ writingBound k operation
+  pub counted : completion .steps ≡ notes .steps
 
 -- the writer's step has one of these answers, and then this holds
 pub data WriterRight (k : ℕ) (operation : Operation) (notes : WriterNotes) : Answer → Type 0 where
-  writer-underway : notes .steps < stepBound k operation → WriterRight k operation notes underway
-  writer-ended : (ending : Ending) → Ended k operation notes ending → WriterRight k operation notes (ended ending)
+  writer-underway : notes .steps < writingBound k operation → WriterRight k operation notes underway
+  writer-ended : (completion : Completion) → Ended k operation notes completion → WriterRight k operation notes (ended completion)
 
 -- a party's step is judged with the notes that count it
 abbrev pub PartyRight : ℕ → ℕ → World → World → ℕ → Answer → Type 0
@@ -146,15 +150,15 @@ unfoldable pub sents : List Given → List Sent
 sents [] = []
 sents (given ∷ rest) = given .sent ∷ sents rest
 
--- the steps that a reader's operation may take: a lookup k + 1, a walk m
+-- the steps that a reader's operation may take: a lookup its bound, a walk m
 unfoldable pub readingBound : ℕ → ℕ → Reading → ℕ
 readingBound m k idle = 0
-readingBound m k (lookingUp point) = k + 1
+readingBound m k (lookingUp point) = stepBound Lookup k
 readingBound m k walking = m
 
 -- the steps that a party's operation may take
 unfoldable pub partyBound : ℕ → ℕ → Log → ℕ → ℕ
-partyBound m k log zero = stepBound k (log .writer .operation)
+partyBound m k log zero = writingBound k (log .writer .operation)
 partyBound m k log (suc reader) = readingBound m k (log .readers reader)
 
 -- of a party at work

@@ -89,11 +89,11 @@ stepOf (suc reader) = readerStep reader
 abbrev pub servedBy : Answer → List ℕ
 servedBy started = []
 servedBy underway = []
-servedBy (ended ending) = []
+servedBy (ended completion) = []
 servedBy (walked word) = []
 servedBy (walkedLast word) = []
 servedBy (served party answer) = party ∷ []
-servedBy (givenAgain ending) = []
+servedBy (givenAgain completion) = []
 servedBy (gives values) = []
 servedBy (refused n) = []
 
@@ -137,11 +137,11 @@ givenTo (sent ∷ rest) ending = record { sent = sent; answer = ending } ∷ giv
 unfoldable pub endedBy : List Sent → Answer → List Given
 endedBy command started = []
 endedBy command underway = []
-endedBy command (ended ending) = givenTo command ending
+endedBy command (ended completion) = givenTo command (completion .ending)
 endedBy command (walked word) = []
 endedBy command (walkedLast word) = []
 endedBy command (served party answer) = endedBy command answer
-endedBy command (givenAgain ending) = []
+endedBy command (givenAgain completion) = []
 endedBy command (gives values) = []
 endedBy command (refused n) = []
 

@@ -119,11 +119,11 @@ writerNow world answer writerStep =
 unfoldable pub wordGiven : Answer → List ℕ
 wordGiven started = []
 wordGiven underway = []
-wordGiven (ended ending) = []
+wordGiven (ended completion) = []
 wordGiven (walked word) = word ∷ []
 wordGiven (walkedLast word) = word ∷ []
 wordGiven (served party answer) = wordGiven answer
-wordGiven (givenAgain ending) = []
+wordGiven (givenAgain completion) = []
 wordGiven (gives values) = []
 wordGiven (refused n) = []
 

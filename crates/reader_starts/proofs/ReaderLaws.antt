@@ -129,7 +129,7 @@ steps-on m k reach work word few h e =
     record { in-range = one .in-range; less = omega (arith, one .less, counted-left m k work) }
 
 -- a lookup of a valid point that has read nothing yet is in range
-begun-fits : (k point : ℕ) → validPoint point ≡ true → lookupInRange k (record { point = point; search = Unread; steps = 0 }) ≡ true
+pub begun-fits : (k point : ℕ) → validPoint point ≡ true → lookupInRange k (record { point = point; search = Unread; steps = 0 }) ≡ true
 unfolding lookupInRange searchInRange
 begun-fits k point valid = both-true (validPoint point) _ valid (both-true true _ refl (none-made Kind·Lookup k))
 

@@ -7,7 +7,7 @@ use Rattle.record.specs.declared.Record.{Record}
 use Rattle.record.specs.Parts.{unheardStation, withWriter}
 use Rattle.record_ranges.specs.Ranges.{inRange}
 use Rattle.record_ranges.proofs.Laws.{sizes-in-range}
-use Rattle.counting.specs.Steps.{stepsOf}
+use Rattle.counting.specs.Steps.{stepsMade}
 use Rattle.answers.specs.Answers.{refused, stepAnswer, outcome, unlessRefused}
 use Rattle.effects.specs.Memory.{slotStored, accessRead, slotsAfter}
 use Rattle.effects.proofs.EffectLaws.{same-in-parts, updated-in-parts}
@@ -29,7 +29,7 @@ module _ (panel : Record) (slots : List ℕ) where
       let w = at-work panel slots e in
       let access = writerAccess panel (countedWork panel) in
       let effect = writerAdvance panel (countedWork panel) (slotStored access) (accessRead slots access) in
-      ap (λ (p : Record). outcome (withWriter p (effect .work)) (slotsAfter slots access) (stepAnswer (stepsOf (countedWork panel)) (effect .progress)))
+      ap (λ (p : Record). outcome (withWriter p (effect .work)) (slotsAfter slots access) (stepAnswer (stepsMade (countedWork panel)) (effect .progress)))
       (updated-in-parts panel place (effect .update) (sizes-in-range (length slots) panel (w .0) .k-high) (run-update-fits panel slots (w .0) (w .1)))
   by-number (suc n) e = ap (λ (p : Record). outcome (withWriter p (panel .writer .work)) slots (refused (suc n))) (same-in-parts panel place)
 

@@ -17,14 +17,14 @@ use Rattle.record.specs.declared.WriterWork.{WriterWork}
 use Rattle.record.specs.declared.WriterWork.the-variants.{Idle, Putting, Changing, Removing}
 use Rattle.record.specs.Parts.{withWriter}
 use Rattle.slot_words.specs.Points.{validPoint}
-use Rattle.counting.specs.declared.steps.OperationKind.the-variants.{Put, Removal}
-use Rattle.counting.specs.Steps.{writerCounted, stepsOf}
+use Rattle.counting.specs.declared.steps.OperationKind.the-variants.{Put, Change, Removal}
+use Rattle.counting.specs.Steps.{writerCounted, stepsMade}
 use Rattle.counting.proofs.StepLaws.{writer-counted-idle}
-use Rattle.work_ranges.specs.WorkRanges.{searchInRange, stepsInRange, putStageInRange, putInRange, removalStageInRange, removalInRange, writerInRange}
+use Rattle.work_ranges.specs.WorkRanges.{searchInRange, stepsInRange, putStageInRange, putInRange, alterationInRange, changeStageInRange, changeInRange, removalStageInRange, removalInRange, writerInRange}
 use Rattle.work_ranges.proofs.CountedRanges.{none-made, writer-counted-fits}
 use Rattle.record_ranges.specs.Ranges.{inRange}
 use Rattle.record_ranges.proofs.Laws.{fields, sizes-in-range, with-writer-in-range}
-use Rattle.writer.specs.Starts.{workStartRefusal, startRefusal, startWriter, startPut, startRemoval}
+use Rattle.writer.specs.Starts.{workStartRefusal, startRefusal, startWriter, putBegun, changeBegun, removalBegun, startPut, startRemoval}
 use Rattle.writer.specs.WriterFacts.{Does, reads, stores-reach, stores-slot, Keeps, Begun}
 use Rattle.writer.specs.Step.{workAccess, writerAccess, workAdvance, writerAdvance, workRefusal, stepRefusal, afterStep, writerRuns, stepWriter}
 use Rattle.writer.specs.Work.{stationAt}
@@ -107,7 +107,7 @@ module _ (panel : Record) (slots : List ℕ) (fits : inRange (length slots) pane
   -- "A step that ends an operation .. leaves that party idle", and only such a step does
   pub run-ended : isUnderway (writerRuns panel slots (countedWork panel) .answer) ≡ not (isWriterIdle (writerRuns panel slots (countedWork panel) .panel .writer .work))
   unfolding writerRuns afterStep withWriter effect access
-  run-ended = one .ended (stepsOf (countedWork panel))
+  run-ended = one .ended (stepsMade (countedWork panel))
 
   pub run-less : writerLeft (writerRuns panel slots (countedWork panel) .panel .k) (writerRuns panel slots (countedWork panel) .panel .reach) (writerRuns panel slots (countedWork panel) .panel .writer .work) + 1 ≤ writerLeft (panel .k) (panel .reach) (panel .writer .work)
   unfolding writerRuns afterStep withWriter effect access
@@ -145,14 +145,29 @@ module _ (panel : Record) (slots : List ℕ) (point : ℕ) (work : WriterWork) w
   unfolding startWriter
   start-begins h w = begun (startRefusal (length slots) panel point) refl h w
 
+-- work on a valid point that begins is in range
+module _ (k point : ℕ) (valid : validPoint point ≡ true) where
+  pub put-begun-fits : (value : ℕ) → writerInRange k (putBegun point value) ≡ true
+  unfolding writerInRange putInRange putStageInRange searchInRange
+  put-begun-fits value = both-true (validPoint point) (both true (stepsInRange Put k 0)) valid (both-true true _ refl (none-made Put k))
+
+  pub change-begun-fits : (keep flip : ℕ) → writerInRange k (changeBegun point keep flip) ≡ true
+  unfolding writerInRange changeInRange alterationInRange changeStageInRange searchInRange
+  change-begun-fits keep flip =
+      both-true (validPoint point) (both true (both true (stepsInRange Change k 0))) valid (both-true true _ refl (both-true true _ refl (none-made Change k)))
+
+  pub removal-begun-fits : writerInRange k (removalBegun point) ≡ true
+  unfolding writerInRange removalInRange removalStageInRange searchInRange
+  removal-begun-fits = both-true (validPoint point) (both true (stepsInRange Removal k 0)) valid (both-true true _ refl (none-made Removal k))
+
 module _ (panel : Record) (slots : List ℕ) (point : ℕ) where
   pub put-begins : (value : ℕ) → Begun (startPut panel slots point value)
-  unfolding startPut writerInRange putInRange putStageInRange searchInRange
-  put-begins value = start-begins panel slots point _ (λ valid. both-true (validPoint point) (both true (stepsInRange Put (panel .k) 0)) valid (both-true true _ refl (none-made Put (panel .k)))) refl
+  unfolding startPut
+  put-begins value = start-begins panel slots point (putBegun point value) (λ valid. put-begun-fits (panel .k) point valid value) refl
 
   pub removal-begins : Begun (startRemoval panel slots point)
-  unfolding startRemoval writerInRange removalInRange removalStageInRange searchInRange
-  removal-begins = start-begins panel slots point _ (λ valid. both-true (validPoint point) (both true (stepsInRange Removal (panel .k) 0)) valid (both-true true _ refl (none-made Removal (panel .k)))) refl
+  unfolding startRemoval
+  removal-begins = start-begins panel slots point (removalBegun point) (λ valid. removal-begun-fits (panel .k) point valid) refl
 
 writer-inside : (panel : Record) (work : WriterWork) → 1 ≤ panel .m → slotNamed (writerAccess panel work) < panel .m
 unfolding workAccess slotNamed slotRead

@@ -10,7 +10,7 @@ use Rattle.record.specs.declared.WriterWork.the-variants.{Idle, Putting, Changi
 use Rattle.record.specs.Parts.{withWriter}
 use Rattle.record_ranges.specs.Ranges.{inRange}
 use Rattle.search.specs.declared.access.ReadAccess.the-variants.{Nothing as ReadAccess·Nothing}
-use Rattle.counting.specs.Steps.{writerCounted, stepsOf}
+use Rattle.counting.specs.Steps.{writerCounted, stepsMade}
 use Rattle.answers.specs.Answers.{stepAnswer, Outcome, outcome, unlessRefused}
 use Rattle.effects.specs.declared.memory.WriterAccess.{WriterAccess}
 use Rattle.effects.specs.declared.memory.WriterAccess.the-variants.{Read}
@@ -59,7 +59,7 @@ afterStep panel slots steps effect =
 -- the three parts of the step of a writer whose work counts it
 unfoldable pub writerRuns : Record → List ℕ → WriterWork → Outcome
 writerRuns panel slots work =
-    afterStep panel (slotsAfter slots (writerAccess panel work)) (stepsOf work)
+    afterStep panel (slotsAfter slots (writerAccess panel work)) (stepsMade work)
     (writerAdvance panel work (slotStored (writerAccess panel work)) (accessRead slots (writerAccess panel work)))
 
 -- the writer's step: "gives the number of steps it took", so it is counted, then made

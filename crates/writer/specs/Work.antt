@@ -8,7 +8,7 @@ use Rattle.record.specs.declared.Station.{Station}
 use Rattle.record.specs.declared.WriterWork.{WriterWork}
 use Rattle.record.specs.declared.WriterWork.the-variants.{Idle, Putting, Changing, Removing}
 use Rattle.record.specs.Parts.{unheardStation, withReach, withCounts, withWriter, withStations, numberedPlace}
-use Rattle.counting.specs.Steps.{writerCounted, stepsOf}
+use Rattle.counting.specs.Steps.{writerCounted, stepsMade}
 use Rattle.answers.specs.Answers.{Answer, stepAnswer, paperStep, Outcome, outcome, unlessRefused}
 use Rattle.effects.specs.declared.update.Update.{Update}
 use Rattle.effects.specs.declared.update.Update.the-variants.{Nothing}
@@ -42,7 +42,7 @@ afterAccess slots steps effect =
 -- the three parts of a step of work that counts it
 unfoldable pub workRuns : ℕ → ℕ → ℕ → List ℕ → WriterWork → List ℕ → WorkOutcome
 workRuns m k reach counts work slots =
-    afterAccess (slotsAfter slots (workAccess m k reach counts work)) (stepsOf work)
+    afterAccess (slotsAfter slots (workAccess m k reach counts work)) (stepsMade work)
     (workAdvance k reach counts work (slotStored (workAccess m k reach counts work)) (accessRead slots (workAccess m k reach counts work)))
 
 -- the step of a writer with this work, by whether the record is in range; the step is counted, then made

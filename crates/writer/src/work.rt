@@ -10,7 +10,7 @@ use answers::result_of;
 use change::change_access;
 use change::change_advance;
 use change::commanding_station;
-use counting::steps::steps_of;
+use counting::steps::steps_made;
 use counting::steps::writer_counted;
 use effects::memory::WriterAccess;
 use effects::memory::perform;
@@ -127,7 +127,7 @@ fn run_step(
     WorkStep {
         work: next,
         update: update,
-        answer: StepAnswer::Stepped(result_of(progress, steps_of(work))),
+        answer: StepAnswer::Stepped(result_of(progress, steps_made(work))),
     }
 }
 

@@ -3,7 +3,7 @@ use Prim.Native.Nat.{ℕ}
 use mathlib.Core.Path.{_∙_, ap}
 use denote.Ref.{now}
 use borrow.Author.Needs.{needs}
-use Rattle.counting.specs.Steps.{stepsOf}
+use Rattle.counting.specs.Steps.{stepsMade}
 use Rattle.answers.specs.Answers.{stepAnswer, paperProgress}
 use Rattle.effects.specs.Memory.{slotStored, accessRead, slotsAfter}
 use Rattle.writer.specs.Step.{workAdvance}
@@ -23,8 +23,8 @@ slot-stored-requires c κs = search needs
 writer-advance-requires : tie.Need-writer-advance-requires
 writer-advance-requires c κs = search needs
 
-steps-of-requires : tie.Need-steps-of-requires
-steps-of-requires c κs = search needs
+steps-made-requires : tie.Need-steps-made-requires
+steps-made-requires c κs = search needs
 
 result-of-requires : tie.Need-result-of-requires
 result-of-requires c κs = search needs
@@ -43,9 +43,9 @@ returns c =
     let word = performed .0 ∙ ap (accessRead s) access in
     let advance = c .before .before .writer-advance in
     let effect = advance .ensures ∙ (λ j. workAdvance (a .k) (a .reach) (now (a .counts)) (a .work) (slot j) (word j)) in
-    let answer = c .result-of .ensures ∙ ap (λ (steps : ℕ). stepAnswer steps (paperProgress (advance .result .progress))) (c .before .steps-of .ensures) in
+    let answer = c .result-of .ensures ∙ ap (λ (steps : ℕ). stepAnswer steps (paperProgress (advance .result .progress))) (c .before .steps-made .ensures) in
     (λ j. record { work = advance .result .work; update = advance .result .update; slots = performed .1 j; answer = answer j })
-    ∙ (λ j. afterAccess (slotsAfter s (access j)) (stepsOf (a .work)) (effect j))
+    ∙ (λ j. afterAccess (slotsAfter s (access j)) (stepsMade (a .work)) (effect j))
 
 pub run-step-spec : {M : Type 1} → statement M
 run-step-spec =
@@ -55,7 +55,7 @@ run-step-spec =
     perform-requires
     slot-stored-requires
     writer-advance-requires
-    steps-of-requires
+    steps-made-requires
     result-of-requires
     same-length
     returns)

@@ -218,6 +218,9 @@ result-back (WalkedLast word) = refl
 pub ending-tells : (a b : EndingEnum) → paperEnding a ≡ paperEnding b → a ≡ b
 ending-tells = LeftInverse·injective asEnding paperEnding ending-back
 
+pub completion-tells : (a b : CompletionStruct) → paperCompletion a ≡ paperCompletion b → a ≡ b
+completion-tells = LeftInverse·injective asCompletion paperCompletion completion-back
+
 pub progress-tells : (a b : ProgressEnum) → paperProgress a ≡ paperProgress b → a ≡ b
 unfolding asProgress
 progress-tells = LeftInverse·injective asProgress paperProgress back

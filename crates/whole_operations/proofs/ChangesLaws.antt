@@ -11,8 +11,8 @@ use Rattle.refusal.specs.Refusals.{numberOf}
 use Rattle.refusal.proofs.Laws.{number-tells}
 use Rattle.record.specs.declared.Record.{Record}
 use Rattle.record.specs.Parts.{withReach, withNumbered, withCounts, withCount}
-use Rattle.answers.specs.Answers.{paperEnding}
-use Rattle.answers.proofs.AnswerLaws.{ending-tells}
+use Rattle.answers.specs.Answers.{paperCompletion}
+use Rattle.answers.proofs.AnswerLaws.{completion-tells}
 use Rattle.whole_operations.specs.declared.changes.Changes.{Changes}
 use Rattle.whole_operations.specs.declared.changes.Written.{Written}
 use Rattle.whole_operations.specs.declared.changes.Written.the-variants.{Refused, Done}
@@ -41,5 +41,5 @@ written-tells (Refused r) (Refused s) e f = let same : numberOf r ≡ numberOf s
 written-tells (Refused r) (Done b) e f = let apart : _≡_ {A = ℕ} 0 1 = cc in absurd (omega arith)
 written-tells (Done a) (Refused s) e f = let apart : _≡_ {A = ℕ} 0 1 = cc in absurd (omega arith)
 written-tells (Done a) (Done b) e f =
-    let same : paperEnding (a .ending) ≡ paperEnding (b .ending) = cc in
-    (λ j. Done (record { changes = f j; ending = ending-tells (a .ending) (b .ending) same j }))
+    let same : paperCompletion (a .completion) ≡ paperCompletion (b .completion) = cc in
+    (λ j. Done (record { changes = f j; completion = completion-tells (a .completion) (b .completion) same j }))

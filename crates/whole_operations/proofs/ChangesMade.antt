@@ -98,17 +98,17 @@ module _ (panel : Record) (reach index count : ℕ) (all : length (panel .counts
       go false w same e = uncounted (outside (panel .counts) index count all w)
 
 -- ---- what an operation hands back that has ended
-ended-changes : (panel after : Record) (slots : List ℕ) (progress : Progress) → changesBetween panel after ≡ changesOf panel (outcome after slots (stepAnswer progress))
+ended-changes : (panel after : Record) (slots : List ℕ) (steps : ℕ) (progress : Progress) → changesBetween panel after ≡ changesOf panel (outcome after slots (stepAnswer steps progress))
 unfolding changesOf
-ended-changes panel after slots continues = refl
-ended-changes panel after slots (finishes ending) = refl
+ended-changes panel after slots steps continues = refl
+ended-changes panel after slots steps (finishes ending) = refl
 
-module _ (panel : Record) (changes : Changes) (before : ℕ) (stored : List ℕ) (progress : Progress) (written : Written) (whole : Outcome) where
-  pub hands-back : length (panel .counts) ≡ 64 → before ≡ countOf panel (changes .index) → (paperWritten written ≡ stepAnswer progress) × (changesIn written ≡ changesMade (changes .reach) (changes .index) before (changes .count)) × ((any : Record) → recordAfter any written ≡ leaves any (changesIn written)) → outcome (leaves panel changes) stored (stepAnswer progress) ≡ whole → (outcome (recordAfter panel written) stored (paperWritten written) ≡ whole) × (changesIn written ≡ changesOf panel whole)
+module _ (panel : Record) (changes : Changes) (before : ℕ) (stored : List ℕ) (steps : ℕ) (progress : Progress) (written : Written) (whole : Outcome) where
+  pub hands-back : length (panel .counts) ≡ 64 → before ≡ countOf panel (changes .index) → (paperWritten written ≡ stepAnswer steps progress) × (changesIn written ≡ changesMade (changes .reach) (changes .index) before (changes .count)) × ((any : Record) → recordAfter any written ≡ leaves any (changesIn written)) → outcome (leaves panel changes) stored (stepAnswer steps progress) ≡ whole → (outcome (recordAfter panel written) stored (paperWritten written) ≡ whole) × (changesIn written ≡ changesOf panel whole)
   hands-back all was handed same =
       let m = made panel (changes .reach) (changes .index) (changes .count) all in
       let numbers = handed .1 ∙ ap (λ (n : ℕ). changesMade (changes .reach) (changes .index) n (changes .count)) was in
       let left = handed .2 panel ∙ ap (leaves panel) numbers ∙ m .leaves-same in (
         (λ j. outcome (left j) stored (handed .0 j)) ∙ same,
-        numbers ∙ m .between ∙ ended-changes panel (leaves panel changes) stored progress ∙ ap (changesOf panel) same,
+        numbers ∙ m .between ∙ ended-changes panel (leaves panel changes) stored steps progress ∙ ap (changesOf panel) same,
       )

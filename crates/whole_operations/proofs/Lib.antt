@@ -9,3 +9,4 @@ mod WorkBeside
 mod Puts
 mod WriterSearch
 mod Removals
+pub mod LookupSteps

@@ -12,6 +12,7 @@ use Rattle.record.specs.declared.Record.{Record}
 use Rattle.record.specs.declared.WriterWork.{WriterWork}
 use Rattle.record.specs.declared.WriterWork.the-variants.{Idle, Putting, Changing, Removing}
 use Rattle.record.specs.Parts.{withReach, withNumbered, withCount, withWriter, withCounts}
+use Rattle.counting.specs.Steps.{writerCounted, stepsMade}
 use Rattle.answers.specs.Answers.{Ending, endedWith, placed, Answer, continues, stepAnswer, isUnderway, outcome}
 use Rattle.search.specs.declared.Searched.{Searched}
 use Rattle.search.specs.declared.Searched.the-variants.{Going, Answered as Searched·Answered}
@@ -34,23 +35,23 @@ pub record Adds (effect : WriterEffect) : Type 0 where
   pub same-kind : puts (effect .work) ≡ true
   pub adds : (panel : Record) → updated panel (effect .update) ≡ counted (withReach panel (reachAfter (panel .reach) (effect .update))) (indexCounted (effect .update))
   -- an index is counted by the last step only
-  pub last : isUnderway (stepAnswer (effect .progress)) ≡ true → indexCounted (effect .update) ≡ 0
+  pub last : (steps : ℕ) → isUnderway (stepAnswer steps (effect .progress)) ≡ true → indexCounted (effect .update) ≡ 0
 
 going : (work : WriterWork) → puts work ≡ true → Adds (goesOn work)
 unfolding goesOn updated counted withReach withCount withCounts withNumbered indexCounted
-going work e = record { same-kind = e; adds = λ panel. refl; last = λ h. refl }
+going work e = record { same-kind = e; adds = λ panel. refl; last = λ steps h. refl }
 
 ending : (answer : Ending) → Adds (ends Nothing answer)
 unfolding ends puts updated counted withReach withCount withCounts withNumbered indexCounted
-ending answer = record { same-kind = refl; adds = λ panel. refl; last = λ h. refl }
+ending answer = record { same-kind = refl; adds = λ panel. refl; last = λ steps h. refl }
 
 raising : (put : Put) (index : ℕ) → Adds (record { work = Putting put; update = Reach index; progress = continues })
 unfolding puts updated counted withReach withCount withCounts withNumbered indexCounted
-raising put index = record { same-kind = refl; adds = λ panel. refl; last = λ h. refl }
+raising put index = record { same-kind = refl; adds = λ panel. refl; last = λ steps h. refl }
 
 counting : (index : ℕ) (answer : Ending) → Adds (ends (Counted index) answer)
 unfolding ends puts updated counted withReach withCount withCounts indexCounted
-counting index answer = record { same-kind = refl; adds = λ panel. refl; last = λ h. absurd (false≢true h) }
+counting index answer = record { same-kind = refl; adds = λ panel. refl; last = λ steps h. absurd (false≢true h) }
 
 module _ (put : Put) where
   at-stage : (stage : PutStage) → Adds (putAt put stage)
@@ -102,11 +103,19 @@ none-counted panel index e = no-count panel index _ e
 pub effect-adds : (panel : Record) (work : WriterWork) (slot word : ℕ) (effect : WriterEffect) → puts work ≡ true → effect ≡ writerAdvance panel work slot word → Adds effect
 effect-adds panel work slot word effect kind same = subst Adds (sym same) (step-adds panel work slot word kind)
 
-pub step-kept : (panel : Record) (reach index next-reach next-index : ℕ) (slots stored : List ℕ) (work : WriterWork) (answer : Answer) (access : WriterAccess) (slot word : ℕ) (effect : WriterEffect) → index ≡ 0 → Adds effect → AtWork (outcome (withWriter (counted (withReach panel reach) index) work) slots answer) → isUnderway answer ≡ true → access ≡ writerAccess (withReach panel reach) work → slot ≡ slotStored access → word ≡ accessRead slots access → stored ≡ slotsAfter slots access → effect ≡ writerAdvance (withReach panel reach) work slot word → next-reach ≡ reachAfter reach (effect .update) → next-index ≡ indexCounted (effect .update) → writerStep (outcome (withWriter (counted (withReach panel reach) index) work) slots answer) ≡ outcome (withWriter (counted (withReach panel next-reach) next-index) (effect .work)) stored (stepAnswer (effect .progress))
+-- counting a step leaves that it is a put's
+pub counted-puts : (k : ℕ) (work : WriterWork) → puts work ≡ true → puts (writerCounted k work) ≡ true
+unfolding puts writerCounted
+counted-puts k Idle e = refl
+counted-puts k (Putting put) e = refl
+counted-puts k (Changing change) e = absurd (false≢true e)
+counted-puts k (Removing removal) e = absurd (false≢true e)
+
+pub step-kept : (panel : Record) (reach index next-reach next-index : ℕ) (slots stored : List ℕ) (work made : WriterWork) (answer : Answer) (access : WriterAccess) (slot word steps : ℕ) (effect : WriterEffect) → index ≡ 0 → Adds effect → AtWork (outcome (withWriter (counted (withReach panel reach) index) work) slots answer) → isUnderway answer ≡ true → made ≡ writerCounted (panel .k) work → access ≡ writerAccess (withReach panel reach) made → slot ≡ slotStored access → word ≡ accessRead slots access → stored ≡ slotsAfter slots access → effect ≡ writerAdvance (withReach panel reach) made slot word → steps ≡ stepsMade made → next-reach ≡ reachAfter reach (effect .update) → next-index ≡ indexCounted (effect .update) → writerStep (outcome (withWriter (counted (withReach panel reach) index) work) slots answer) ≡ outcome (withWriter (counted (withReach panel next-reach) next-index) (effect .work)) stored (stepAnswer steps (effect .progress))
 unfolding withReach
-step-kept panel reach index next-reach next-index slots stored work answer access slot word effect none adds p e same-access same-slot same-word same-slots same-effect same-reach same-index =
+step-kept panel reach index next-reach next-index slots stored work made answer access slot word steps effect none adds p e same-made same-access same-slot same-word same-slots same-effect same-steps same-reach same-index =
     let held = withReach panel reach in
     let kept = sym (none-counted held index none) in
-    step-beside (counted held index) _ slots stored work answer access slot word effect p e (same-access ∙ ap (λ (r : Record). writerAccess r work) kept) same-slot same-word same-slots
-    (same-effect ∙ ap (λ (r : Record). writerAdvance r work slot word) kept)
+    step-beside (counted held index) _ slots stored work made answer access slot word steps effect p e (same-made ∙ ap (λ (r : Record). writerCounted (r .k) work) kept) (same-access ∙ ap (λ (r : Record). writerAccess r made) kept) same-slot same-word same-slots
+    (same-effect ∙ ap (λ (r : Record). writerAdvance r made slot word) kept) same-steps
     ((λ j. counted (withReach panel (same-reach j)) (same-index j)) ∙ sym (adds .adds held) ∙ ap (λ (r : Record). updated r (effect .update)) kept)

@@ -12,6 +12,7 @@ use Rattle.record.specs.declared.RemovalStage.the-variants.{Searching, Found as
 use Rattle.record.specs.declared.WriterWork.{WriterWork}
 use Rattle.record.specs.declared.WriterWork.the-variants.{Idle, Putting, Changing, Removing}
 use Rattle.record.specs.Parts.{numbered, withNumbered, countOf, withReach, withCount, withCounts}
+use Rattle.counting.specs.Steps.{removalCounted, writerCounted}
 use Rattle.answers.specs.Answers.{Ending, removed}
 use Rattle.search.specs.declared.Searched.{Searched}
 use Rattle.search.specs.declared.Searched.the-variants.{Going, Answered}
@@ -107,6 +108,14 @@ step-keeps panel held index Idle slot word kept e = absurd (false≢true (sym e)
 step-keeps panel held index (Putting put) slot word kept e = absurd (false≢true (kept .kind))
 step-keeps panel held index (Changing change) slot word kept e = absurd (false≢true (kept .kind))
 step-keeps panel held index (Removing removal) slot word kept e = by-stage panel held index (kept .same) removal (removal .stage) word (kept .none)
+
+-- counting a step leaves what is kept
+pub counted-kept : (panel held : Record) (index k : ℕ) (work : WriterWork) → Kept panel held index work → Kept panel held index (writerCounted k work)
+unfolding removes isToRemove writerCounted removalCounted
+counted-kept panel held index k Idle kept = kept
+counted-kept panel held index k (Putting put) kept = absurd (false≢true (kept .kind))
+counted-kept panel held index k (Changing change) kept = absurd (false≢true (kept .kind))
+counted-kept panel held index k (Removing removal) kept = record { same = kept .same; kind = refl; none = kept .none }
 
 -- ---- a removal that begins
 pub begins-kept : (panel : Record) (work : WriterWork) → removes work ≡ true → Kept panel panel 0 work

@@ -1,24 +1,22 @@
--- Whole puts and removals end: 2k + 2 and k + 3 steps suffice, on every record.
-use Prim.Native.Nat.{ℕ, zero, suc, _+_, _*_, _≤_}
+-- Whole puts and removals end: their bounds of steps suffice, on every record.
+use Prim.Native.Nat.{ℕ, zero, suc, _+_, _≤_}
 use mathlib.Core.Path.{_≡_, refl, ap, sym, transport}
 use mathlib.Core.Bool.{true, false, not}
 use mathlib.Core.List.{List}
 use native.Mathlib.Omega.{arith}
 use lib.ListN.{length}
 use Rattle.record.specs.declared.Record.{Record}
-use Rattle.record.specs.declared.Search.the-variants.{Unread}
-use Rattle.record.specs.declared.PutStage.the-variants.{Searching as PutStage·Searching}
-use Rattle.record.specs.declared.RemovalStage.the-variants.{Searching as RemovalStage·Searching}
 use Rattle.record.specs.declared.WriterWork.{WriterWork}
-use Rattle.record.specs.declared.WriterWork.the-variants.{Putting, Removing}
 use Rattle.record.specs.Parts.{withWriter}
+use Rattle.counting.specs.declared.steps.OperationKind.the-variants.{Put, Removal}
+use Rattle.counting.specs.Steps.{stepBound}
 use Rattle.answers.specs.Answers.{started, refused, isUnderway, Outcome, outcome, unlessRefused}
 use Rattle.whole_operations.specs.Whole.{untilEnded, writerStep, wholePut, wholeRemoval}
 use Rattle.search.proofs.SearchLaws.{searchLeft}
 use Rattle.whole_operations.proofs.WholeLaws.{budget-suffices, has-ended}
 use Rattle.record.specs.Idle.{isWriterIdle}
 use Rattle.effects.proofs.EffectLaws.{putSearchLeft, putLeft, removalLeft, writerLeft}
-use Rattle.writer.specs.Starts.{startRefusal, startWriter, startPut, startRemoval}
+use Rattle.writer.specs.Starts.{startRefusal, startWriter, putBegun, removalBegun, startPut, startRemoval}
 use Rattle.writer.specs.WriterFacts.{Begun}
 use Rattle.writer.proofs.WriterLaws.{AtWork, works, allowed, run-at-work, run-less, put-begins, removal-begins}
 
@@ -52,16 +50,14 @@ module _ (panel : Record) (slots : List ℕ) (point budget : ℕ) (work : Writer
   ends begun = ends-by (startRefusal (length slots) panel point) begun
 
 module _ (panel : Record) (slots : List ℕ) (point : ℕ) where
-  -- "At most 2k + 2 steps"
   pub whole-put-ends : (value : ℕ) → isUnderway (wholePut panel slots point value .answer) ≡ false
   unfolding wholePut startPut writerLeft putLeft putSearchLeft
   whole-put-ends value =
-      ends panel slots point (2 * panel .k + 2) (Putting (record { point = point; value = value; stage = PutStage·Searching Unread })) (omega arith) refl
+      ends panel slots point (stepBound Put (panel .k)) (putBegun point value) (omega arith) refl
       (put-begins panel slots point value)
 
-  -- "At most k + 3"
   pub whole-removal-ends : isUnderway (wholeRemoval panel slots point .answer) ≡ false
   unfolding wholeRemoval startRemoval writerLeft removalLeft searchLeft
   whole-removal-ends =
-      ends panel slots point (panel .k + 3) (Removing (record { point = point; stage = RemovalStage·Searching Unread })) (omega arith) refl
+      ends panel slots point (stepBound Removal (panel .k)) (removalBegun point) (omega arith) refl
       (removal-begins panel slots point)

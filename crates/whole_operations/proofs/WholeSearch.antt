@@ -18,8 +18,9 @@ use Rattle.search.specs.Access.{wordRead}
 use Rattle.search.specs.Search.{searchAccess, firstProbe, nextProbe, holdsPoint, probeAdvance, searchAdvance}
 use Rattle.slot_words.specs.Word.{pointOf, valueOf}
 use Rattle.search.proofs.SearchLaws.{searchLeft, some-left, searchedLeft, searchedInRange, OneStep, search-step}
+use Rattle.whole_operations.specs.declared.searching.SearchEnd.{SearchEnd}
 use Rattle.whole_operations.specs.Whole.{untilEnded}
-use Rattle.whole_operations.specs.WholeFacts.{answerAfter, searchEnd}
+use Rattle.whole_operations.specs.WholeFacts.{endAfter, searchEnd}
 use Rattle.whole_operations.proofs.WholeLaws.{one-step, one-more, some-budget}
 
 -- an operation as its search stands after a step
@@ -33,9 +34,13 @@ module _ (step : Outcome → Outcome) (P : Outcome → Type 0) where
     pub holds : P after
     pub same : untilEnded step budget before ≡ untilEnded step budget after
 
-  module _ (slots : List ℕ) (m point reach : ℕ) (keeps : (now : Outcome) → P now → isUnderway (now .answer) ≡ true → P (step now)) (going : Search → Outcome) (answered : SearchAnswer → Outcome) (goes : (search : Search) → isUnderway (going search .answer) ≡ true) (takes : (search : Search) → P (going search) → step (going search) ≡ standing going answered (searchAdvance reach point search (wordRead slots (searchAccess m point search)))) where
-    abbrev end : ℕ → Search → SearchAnswer
-    end n search = searchEnd slots m point reach n search
+  module _ (slots : List ℕ) (m point reach top : ℕ) (keeps : (now : Outcome) → P now → isUnderway (now .answer) ≡ true → P (step now)) (going : ℕ → Search → Outcome) (answered : ℕ → SearchAnswer → Outcome) (goes : (steps : ℕ) (search : Search) → isUnderway (going steps search .answer) ≡ true) (takes : (steps : ℕ) (search : Search) → steps ≤ top → P (going steps search) → step (going steps search) ≡ standing (going (steps + 1)) (answered (steps + 1)) (searchAdvance reach point search (wordRead slots (searchAccess m point search)))) where
+    abbrev end : ℕ → ℕ → Search → SearchEnd
+    end n steps search = searchEnd slots m point reach n steps search
+
+    -- the operation after the step that answers its search
+    abbrev answeredAt : SearchEnd → Outcome
+    answeredAt found = answered (found .steps) (found .answer)
 
     -- a step more in the budget, where what is left ends without it
     with-one : (budget : ℕ) (before next : Outcome) (after : Outcome) → isUnderway (before .answer) ≡ true → step before ≡ next → isUnderway (untilEnded step (suc budget) before .answer) ≡ false → Comes budget next after → Comes (suc budget) before after
@@ -47,56 +52,62 @@ module _ (step : Outcome → Outcome) (P : Outcome → Type 0) where
           same = on ∙ sym (one-more step budget after (ap (λ (now : Outcome). isUnderway (now .answer)) (sym on) ∙ ends));
         }
 
-    pub search-comes : (n : ℕ) (search : Search) (budget : ℕ) → P (going search) → searchInRange reach search ≡ true → searchLeft reach search ≤ n → isUnderway (untilEnded step budget (going search) .answer) ≡ false → Comes budget (going search) (answered (end n search))
-    unfolding searchEnd answerAfter searchedInRange searchedLeft
-    search-comes zero search budget p fits h ends = absurd (omega (arith, some-left reach search))
-    search-comes (suc n) search zero p fits h ends = absurd (omega (arith, some-budget step zero (going search) (goes search) ends))
-    search-comes (suc n) search (suc budget) p fits h ends =
+    pub search-comes : (n steps : ℕ) (search : Search) (budget : ℕ) → P (going steps search) → searchInRange reach search ≡ true → searchLeft reach search ≤ n → steps + n ≤ top + 1 → isUnderway (untilEnded step budget (going steps search) .answer) ≡ false → Comes budget (going steps search) (answeredAt (end n steps search))
+    unfolding searchEnd endAfter searchedInRange searchedLeft
+    search-comes zero steps search budget p fits h within ends = absurd (omega (arith, some-left reach search))
+    search-comes (suc n) steps search zero p fits h within ends = absurd (omega (arith, some-budget step zero (going steps search) (goes steps search) ends))
+    search-comes (suc n) steps search (suc budget) p fits h within ends =
         go (searchAdvance reach point search word) refl (search-step reach reach point search word (omega arith) fits)
-        (λ next. search-comes n next budget)
+        (λ next. search-comes n (steps + 1) next budget)
       where
         word : ℕ
         word = wordRead slots (searchAccess m point search)
 
-        after : (stands : Searched) → searchAdvance reach point search word ≡ stands → step (going search) ≡ standing going answered stands
-        after stands e = takes search p ∙ ap (standing going answered) e
+        stood : Searched → Outcome
+        stood stands = standing (going (steps + 1)) (answered (steps + 1)) stands
 
-        held : (stands : Searched) → searchAdvance reach point search word ≡ stands → P (standing going answered stands)
-        held stands e = transport (λ j. P (after stands e j)) (keeps (going search) p (goes search))
+        after : (stands : Searched) → searchAdvance reach point search word ≡ stands → step (going steps search) ≡ stood stands
+        after stands e = takes steps search (omega arith) p ∙ ap stood e
 
-        left-ends : (stands : Searched) → searchAdvance reach point search word ≡ stands → isUnderway (untilEnded step budget (standing going answered stands) .answer) ≡ false
+        held : (stands : Searched) → searchAdvance reach point search word ≡ stands → P (stood stands)
+        held stands e = transport (λ j. P (after stands e j)) (keeps (going steps search) p (goes steps search))
+
+        left-ends : (stands : Searched) → searchAdvance reach point search word ≡ stands → isUnderway (untilEnded step budget (stood stands) .answer) ≡ false
         left-ends stands e =
             let one-less : budget ≡ suc budget - 1 = omega arith in
             ap (λ (now : Outcome). isUnderway (untilEnded step budget now .answer)) (sym (after stands e))
             ∙ ap (λ (now : Outcome). isUnderway (now .answer))
-            (ap (λ (n : ℕ). untilEnded step n (step (going search))) one-less ∙ sym (one-step step (suc budget) (going search) (omega arith) (goes search)))
+            (ap (λ (n : ℕ). untilEnded step n (step (going steps search))) one-less ∙ sym (one-step step (suc budget) (going steps search) (omega arith) (goes steps search)))
             ∙ ends
 
-        go : (stands : Searched) → searchAdvance reach point search word ≡ stands → OneStep reach (searchLeft reach search) stands → ((next : Search) → P (going next) → searchInRange reach next ≡ true → searchLeft reach next ≤ n → isUnderway (untilEnded step budget (going next) .answer) ≡ false → Comes budget (going next) (answered (end n next))) → Comes (suc budget) (going search) (answered (answerAfter (end n) stands))
+        go : (stands : Searched) → searchAdvance reach point search word ≡ stands → OneStep reach (searchLeft reach search) stands → ((next : Search) → P (going (steps + 1) next) → searchInRange reach next ≡ true → searchLeft reach next ≤ n → steps + 1 + n ≤ top + 1 → isUnderway (untilEnded step budget (going (steps + 1) next) .answer) ≡ false → Comes budget (going (steps + 1) next) (answeredAt (end n (steps + 1) next))) → Comes (suc budget) (going steps search) (answeredAt (endAfter (end n (steps + 1)) (steps + 1) stands))
         go (Going next) e one more =
-            with-one budget (going search) (going next) _ (goes search) (after (Going next) e) ends
-            (more next (held (Going next) e) (one .fits) (omega (arith, one .less)) (left-ends (Going next) e))
+            with-one budget (going steps search) (going (steps + 1) next) _ (goes steps search) (after (Going next) e) ends
+            (more next (held (Going next) e) (one .fits) (omega (arith, one .less)) (omega arith) (left-ends (Going next) e))
         go (Answered answer) e one more =
-            with-one budget (going search) (answered answer) _ (goes search) (after (Answered answer) e) ends
+            with-one budget (going steps search) (answered (steps + 1) answer) _ (goes steps search) (after (Answered answer) e) ends
             (record { holds = held (Answered answer) e; same = refl })
 
--- ---- the loop that searches: from this index on the search comes to the same
+-- ---- the loop that searches: from this index on, with as many steps made, the search comes to the same
 module _ (slots : List ℕ) (m point reach : ℕ) where
   abbrev probing : ℕ → Search
   probing next = Probing (record { reach = reach; next = next })
 
-  abbrev whole : SearchAnswer
-  whole = searchEnd slots m point reach (suc reach) Unread
+  abbrev ended : SearchAnswer → ℕ → SearchEnd
+  ended answer steps = record { answer = answer; steps = steps }
+
+  abbrev whole : SearchEnd
+  whole = searchEnd slots m point reach (suc reach) 0 Unread
 
   pub record FromIndex (next : ℕ) : Type 0 where
     pub low : 1 ≤ next
     pub high : next ≤ reach + 1
-    pub more : next ≤ reach → searchEnd slots m point reach (reach + 1 - next) (probing next) ≡ whole
-    pub none : reach < next → Unknown ≡ whole
+    pub more : next ≤ reach → searchEnd slots m point reach (reach + 1 - next) next (probing next) ≡ whole
+    pub none : reach < next → ended Unknown next ≡ whole
 
   -- "read the reach r; then positions 1 to r"
   pub first-index : FromIndex 1
-  unfolding searchEnd answerAfter searchAdvance firstProbe
+  unfolding searchEnd endAfter searchAdvance firstProbe
   first-index = go (eqb reach 0) refl
     where
       go : (b : Bool) → eqb reach 0 ≡ b → FromIndex 1
@@ -108,17 +119,17 @@ module _ (slots : List ℕ) (m point reach : ℕ) where
           record {
             low = omega arith;
             high = omega arith;
-            more = λ h. let all : reach + 1 - 1 ≡ reach = omega arith in rw e (ap (λ (n : ℕ). searchEnd slots m point reach n (probing 1)) all);
+            more = λ h. let all : reach + 1 - 1 ≡ reach = omega arith in rw e (ap (λ (n : ℕ). searchEnd slots m point reach n 1 (probing 1)) all);
             none = λ h. absurd (omega arith);
           }
 
   -- a step of the loop: it answers, or goes on to the next index
   abbrev pub AfterProbe : ℕ → Searched → Type 0
   AfterProbe next (Going search) = FromIndex (next + 1)
-  AfterProbe next (Answered answer) = answer ≡ whole
+  AfterProbe next (Answered answer) = ended answer (next + 1) ≡ whole
 
   pub after-probe : (next : ℕ) → FromIndex next → next ≤ reach → AfterProbe next (searchAdvance reach point (probing next) (wordRead slots (searchAccess m point (probing next))))
-  unfolding searchAdvance holdsPoint probeAdvance nextProbe searchEnd answerAfter
+  unfolding searchAdvance holdsPoint probeAdvance nextProbe searchEnd endAfter
   after-probe next way h = go (eqb (pointOf word) point) (ltb next reach) refl same
     where
       word : ℕ
@@ -128,19 +139,23 @@ module _ (slots : List ℕ) (m point reach : ℕ) where
       stands : (hit more : Bool) → Searched
       stands hit more = cond hit (Answered (Found (record { index = next; value = valueOf word }))) (cond more (Going (probing (next + 1))) (Answered Unknown))
 
-      same : answerAfter (searchEnd slots m point reach (reach - next)) (stands (eqb (pointOf word) point) (ltb next reach)) ≡ whole
+      -- what is left from there
+      left : Searched → SearchEnd
+      left after = endAfter (searchEnd slots m point reach (reach - next) (next + 1)) (next + 1) after
+
+      same : left (stands (eqb (pointOf word) point) (ltb next reach)) ≡ whole
       same =
           let one-less : suc (reach - next) ≡ reach + 1 - next = omega arith in
-          ap (λ (n : ℕ). searchEnd slots m point reach n (probing next)) one-less ∙ way .more h
+          ap (λ (n : ℕ). searchEnd slots m point reach n next (probing next)) one-less ∙ way .more h
 
-      go : (hit more : Bool) → ltb next reach ≡ more → answerAfter (searchEnd slots m point reach (reach - next)) (stands hit more) ≡ whole → AfterProbe next (stands hit more)
+      go : (hit more : Bool) → ltb next reach ≡ more → left (stands hit more) ≡ whole → AfterProbe next (stands hit more)
       go true more e ends = ends
       go false true e ends =
           let below = ltb-true next reach e in
           record {
             low = omega arith;
             high = omega arith;
-            more = λ h. let left : reach + 1 - (next + 1) ≡ reach - next = omega arith in ap (λ (n : ℕ). searchEnd slots m point reach n (probing (next + 1))) left ∙ ends;
+            more = λ h. let fewer : reach + 1 - (next + 1) ≡ reach - next = omega arith in ap (λ (n : ℕ). searchEnd slots m point reach n (next + 1) (probing (next + 1))) fewer ∙ ends;
             none = λ h. absurd (omega arith);
           }
       go false false e ends = ends

@@ -1,5 +1,5 @@
 -- Whole operations: started, and stepped to their end.
-use Prim.Native.Nat.{ℕ, zero, suc, _+_, _*_}
+use Prim.Native.Nat.{ℕ, zero, suc}
 use mathlib.Core.Bool.{Bool, cond, not}
 use mathlib.Core.List.{List}
 use lib.Dec.{eqb}
@@ -7,7 +7,9 @@ use Rattle.conditions.specs.Conditions.{either}
 use Rattle.record.specs.declared.Record.{Record}
 use Rattle.refusal.specs.Refusals.{numberOf}
 use Rattle.record.specs.Parts.{withReach, countOf, withCount}
-use Rattle.answers.specs.Answers.{Answer, ended, refused, paperEnding, isUnderway, isRefused, Outcome}
+use Rattle.counting.specs.declared.steps.OperationKind.the-variants.{Lookup, Put, Removal}
+use Rattle.counting.specs.Steps.{stepBound}
+use Rattle.answers.specs.Answers.{Answer, ended, refused, paperCompletion, isUnderway, isRefused, Outcome}
 use Rattle.reader_step.specs.Reader.{stepReader}
 use Rattle.reader_starts.specs.Starts.{startLookup}
 use Rattle.writer.specs.Step.{stepWriter}
@@ -29,17 +31,17 @@ readerStep reader now = stepReader (now .panel) (now .slots) reader
 unfoldable pub writerStep : Outcome → Outcome
 writerStep now = stepWriter (now .panel) (now .slots)
 
--- "Lookup: read the reach r; then positions 1 to r": at most k + 1 steps
+-- "Lookup: read the reach r; then positions 1 to r"
 unfoldable pub wholeLookup : Record → List ℕ → ℕ → ℕ → Outcome
-wholeLookup panel slots reader point = untilEnded (readerStep reader) (panel .k + 1) (startLookup panel slots reader point)
+wholeLookup panel slots reader point = untilEnded (readerStep reader) (stepBound Lookup (panel .k)) (startLookup panel slots reader point)
 
--- a put: "At most 2k + 2 steps"
+-- a put, within its bound
 unfoldable pub wholePut : Record → List ℕ → ℕ → ℕ → Outcome
-wholePut panel slots point value = untilEnded writerStep (2 * panel .k + 2) (startPut panel slots point value)
+wholePut panel slots point value = untilEnded writerStep (stepBound Put (panel .k)) (startPut panel slots point value)
 
--- a removal: "At most k + 3"
+-- a removal, within its bound
 unfoldable pub wholeRemoval : Record → List ℕ → ℕ → Outcome
-wholeRemoval panel slots point = untilEnded writerStep (panel .k + 3) (startRemoval panel slots point)
+wholeRemoval panel slots point = untilEnded writerStep (stepBound Removal (panel .k)) (startRemoval panel slots point)
 
 -- the largest index of 1 to n whose count is another in the second record, or 0
 unfoldable pub recountedUpTo : Record → Record → ℕ → ℕ
@@ -71,7 +73,7 @@ changesIn (Done finished) = finished .changes
 -- and the answer
 abbrev pub paperWritten : Written → Answer
 paperWritten (Refused r) = refused (numberOf r)
-paperWritten (Done finished) = ended (paperEnding (finished .ending))
+paperWritten (Done finished) = ended (paperCompletion (finished .completion))
 
 -- a record with these changes made: the reach, and the count of one index, or of none where that is 0
 unfoldable pub leaves : Record → Changes → Record

@@ -1,4 +1,5 @@
 // The steps that an operation may still take.
+ghost use Prim.Native.Nat.{ℕ};
 ghost use mathlib.Core.Bool.{cond};
 ghost use mathlib.Core.Path.{_≡_};
 ghost use Rattle.answers.specs.Answers.{stepAnswer, paperProgress, isUnderway};
@@ -12,7 +13,7 @@ pub(crate) fn while_underway(left: u64, underway: bool) -> u64
 }
 
 pub(crate) fn goes_on(progress: Progress) -> bool
-    ensures { λ r. ⌜ r ≡ isUnderway (stepAnswer (paperProgress progress)) ⌝ }
+    ensures { λ r. ⌜ ((steps : ℕ) → r ≡ isUnderway (stepAnswer steps (paperProgress progress))) ⌝ }
 {
     match progress {
         Progress::Underway => true,

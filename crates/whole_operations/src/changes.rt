@@ -5,7 +5,7 @@ ghost use Rattle.record.specs.declared.Record.{Record};
 ghost use Rattle.answers.specs.Answers.{stepAnswer, paperProgress, isUnderway};
 ghost use Rattle.whole_operations.specs.Whole.{leaves, changesAny, paperWritten, changesIn, recordAfter};
 ghost use Rattle.whole_operations.specs.WholeFacts.{changesMade};
-use answers::Ending;
+use answers::Completion;
 use answers::Progress;
 use conditions::both_hold;
 use conditions::either_holds;
@@ -28,7 +28,7 @@ pub struct Changes {
 // An operation that was carried out to its end.
 pub struct Finished {
     pub changes: Changes,
-    pub ending: Ending,
+    pub completion: Completion,
 }
 
 // What a whole put or removal hands back. With a refusal there is no other number.
@@ -42,6 +42,8 @@ pub(crate) struct Ran {
     // with the index that was counted or uncounted, also where its count is as it was
     pub changes: Changes,
     pub progress: Progress,
+    // how many steps were made
+    pub steps: u32,
     pub work: WriterWork,
 }
 
@@ -81,9 +83,9 @@ fn changes_made(reach: u32, index: u32, before: u32, after: u32) -> Changes
 }
 
 // What an operation hands back that has ended, by the count of its index before.
-pub(crate) fn handed_back(changes: Changes, before: u32, progress: Progress) -> Written
-    requires { ⌜ isUnderway (stepAnswer (paperProgress progress)) ≡ false ⌝ }
-    ensures { λ r. ⌜ (paperWritten r ≡ stepAnswer (paperProgress progress)) × (changesIn r ≡ changesMade (changes .reach) (changes .index) before (changes .count)) × ((panel : Record) → recordAfter panel r ≡ leaves panel (changesIn r)) ⌝ }
+pub(crate) fn handed_back(changes: Changes, before: u32, progress: Progress, steps: u32) -> Written
+    requires { ⌜ isUnderway (stepAnswer steps (paperProgress progress)) ≡ false ⌝ }
+    ensures { λ r. ⌜ (paperWritten r ≡ stepAnswer steps (paperProgress progress)) × (changesIn r ≡ changesMade (changes .reach) (changes .index) before (changes .count)) × ((panel : Record) → recordAfter panel r ≡ leaves panel (changesIn r)) ⌝ }
 {
     match progress {
         Progress::Underway => Written::Refused(Refusal::Idle),
@@ -91,7 +93,10 @@ pub(crate) fn handed_back(changes: Changes, before: u32, progress: Progress) -> 
             let made = changes_made(changes.reach, changes.index, before, changes.count);
             Written::Done(Finished {
                 changes: made,
-                ending: ending,
+                completion: Completion {
+                    ending: ending,
+                    steps: steps,
+                },
             })
         }
     }

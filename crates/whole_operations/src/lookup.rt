@@ -3,6 +3,7 @@ ghost use mathlib.Core.Path.{_≡_};
 ghost use Rattle.answers.specs.Answers.{paperWhole, outcome};
 ghost use Rattle.whole_operations.specs.Whole.{wholeLookup};
 use crate::searching::whole_search;
+use answers::Completion;
 use answers::WholeAnswer;
 use reader_starts::judge_lookup;
 use reader_step::lookup_ending;
@@ -16,8 +17,12 @@ pub fn whole_lookup(panel: Record, slots: &[u64], reader: u32, point: u32) -> Wh
     match judge_lookup(panel, slots.len(), reader, point) {
         Judged::Refused(refusal) => WholeAnswer::Refused(refusal),
         Judged::Allowed => {
-            let answer = whole_search(slots, panel.m, point, panel.reach);
-            WholeAnswer::Ended(lookup_ending(answer))
+            let found = whole_search(slots, panel.m, point, panel.reach);
+            let answer = found.answer;
+            WholeAnswer::Ended(Completion {
+                ending: lookup_ending(answer),
+                steps: found.steps,
+            })
         }
     }
 }

@@ -18,7 +18,11 @@ use crate::changes::Ran;
 use crate::changes::Written;
 use crate::changes::handed_back;
 use crate::searching::whole_search;
-use effects::counts::one_more;
+use counting::one_more;
+use counting::steps::OperationKind;
+use counting::steps::step_bound;
+use counting::steps::steps_made;
+use counting::steps::writer_counted;
 use effects::memory::WriterAccess;
 use effects::memory::perform;
 use effects::memory::slot_stored;
@@ -78,22 +82,25 @@ fn index_counted(update: Update) -> u32
     }
 }
 
-// The steps that are left of a put, if any are, to the end or as many as the budget allows. The record was
-// judged when the put was started, and every step keeps it in range, so that no step needs to judge it
-// again.
-fn steps(panel: Record, slots: &mut [u64], begun: Effect, budget: u64) -> Ran
-    requires { ⌜ (inRange (length (now slots)) (withWriter panel (begun .work)) ≡ true) × (isUnderway (stepAnswer (paperProgress (begun .progress))) ≡ not (isWriterIdle (begun .work))) × (puts (begun .work) ≡ true) ⌝ }
-    ensures { λ r. ⌜ (outcome (withWriter (leaves panel (r .changes)) (r .work)) (now (slots .exit)) (stepAnswer (paperProgress (r .progress))) ≡ untilEnded writerStep budget (outcome (withWriter panel (begun .work)) (now (slots .entry)) (stepAnswer (paperProgress (begun .progress))))) × (isUnderway (stepAnswer (paperProgress (r .progress))) ≡ not (isWriterIdle (r .work))) ⌝ }
+// The steps that are left of a put, if any are, to the end or as many as the budget allows. So many were made
+// before. The record was judged when the put was started, and every step keeps it in range, so that no step
+// needs to judge it again.
+fn steps(panel: Record, slots: &mut [u64], begun: Effect, before: u32, budget: u64) -> Ran
+    requires { ⌜ (inRange (length (now slots)) (withWriter panel (begun .work)) ≡ true) × (isUnderway (stepAnswer before (paperProgress (begun .progress))) ≡ not (isWriterIdle (begun .work))) × (puts (begun .work) ≡ true) ⌝ }
+    ensures { λ r. ⌜ (outcome (withWriter (leaves panel (r .changes)) (r .work)) (now (slots .exit)) (stepAnswer (r .steps) (paperProgress (r .progress))) ≡ untilEnded writerStep budget (outcome (withWriter panel (begun .work)) (now (slots .entry)) (stepAnswer before (paperProgress (begun .progress))))) × (isUnderway (stepAnswer (r .steps) (paperProgress (r .progress))) ≡ not (isWriterIdle (r .work))) ⌝ }
 {
     let mut reach = panel.reach;
     let mut index = 0;
     let mut work = begun.work;
     let mut progress = begun.progress;
+    let mut steps = before;
     let mut left = while_underway(budget, goes_on(progress));
     while 0 < left {
-        let made = access(panel, reach, work);
+        let counted = writer_counted(work, panel.k);
+        let made = access(panel, reach, counted);
         let word = perform(slots, made);
-        let next = advance(panel, reach, work, slot_stored(made), word);
+        let next = advance(panel, reach, counted, slot_stored(made), word);
+        steps = steps_made(counted);
         work = next.work;
         progress = next.progress;
         let update = next.update;
@@ -108,6 +115,7 @@ fn steps(panel: Record, slots: &mut [u64], begun: Effect, budget: u64) -> Ran
             count: one_more(panel.m, count_of(panel, index)),
         },
         progress: progress,
+        steps: steps,
         work: work,
     }
 }
@@ -116,20 +124,33 @@ fn steps(panel: Record, slots: &mut [u64], begun: Effect, budget: u64) -> Ran
 pub fn whole_put(panel: Record, slots: &mut [u64], point: u32, value: u32) -> Written
     ensures { λ r. ⌜ (outcome (recordAfter panel r) (now (slots .exit)) (paperWritten r) ≡ wholePut panel (now (slots .entry)) point value) × (changesIn r ≡ changesOf panel (wholePut panel (now (slots .entry)) point value)) ⌝ }
 {
-    let budget = 2 * panel.k as u64 + 2;
-    let put = Put {
-        point: point,
-        value: value,
-        stage: PutStage::Searching(Search::Unread),
-    };
+    let budget = step_bound(OperationKind::Put, panel.k);
     match judge_start(panel, slots.len(), point) {
         Judged::Refused(refusal) => Written::Refused(refusal),
         Judged::Allowed => {
-            let answer = whole_search(slots, panel.m, point, panel.reach);
-            let ran = steps(panel, slots, put_answered(put, answer), budget);
+            let found = whole_search(slots, panel.m, point, panel.reach);
+            let answer = found.answer;
+            let put = Put {
+                point: point,
+                value: value,
+                stage: PutStage::Searching(Search::Unread),
+                steps: found.steps,
+            };
+            let ran = steps(
+                panel,
+                slots,
+                put_answered(put, answer),
+                found.steps,
+                budget,
+            );
             let changes = ran.changes;
             let progress = ran.progress;
-            handed_back(changes, count_of(panel, changes.index), progress)
+            handed_back(
+                changes,
+                count_of(panel, changes.index),
+                progress,
+                ran.steps,
+            )
         }
     }
 }

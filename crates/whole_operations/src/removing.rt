@@ -15,6 +15,10 @@ use crate::changes::Ran;
 use crate::changes::Written;
 use crate::changes::handed_back;
 use crate::searching::whole_search;
+use counting::steps::OperationKind;
+use counting::steps::step_bound;
+use counting::steps::steps_made;
+use counting::steps::writer_counted;
 use effects::memory::perform;
 use effects::memory::slot_stored;
 use effects::update::Effect;
@@ -44,24 +48,27 @@ fn index_uncounted(index: u32, update: Update) -> u32
     }
 }
 
-// The steps that are left of a removal, if any are, to the end or as many as the budget allows. The record
-// was judged when the removal was started, and every step keeps it in range, so that no step needs to
-// judge it again.
-fn steps(panel: Record, slots: &mut [u64], begun: Effect, budget: u64) -> Ran
-    requires { ⌜ (inRange (length (now slots)) (withWriter panel (begun .work)) ≡ true) × (isUnderway (stepAnswer (paperProgress (begun .progress))) ≡ not (isWriterIdle (begun .work))) × (removes (begun .work) ≡ true) ⌝ }
-    ensures { λ r. ⌜ (outcome (withWriter (leaves panel (r .changes)) (r .work)) (now (slots .exit)) (stepAnswer (paperProgress (r .progress))) ≡ untilEnded writerStep budget (outcome (withWriter panel (begun .work)) (now (slots .entry)) (stepAnswer (paperProgress (begun .progress))))) × (isUnderway (stepAnswer (paperProgress (r .progress))) ≡ not (isWriterIdle (r .work))) ⌝ }
+// The steps that are left of a removal, if any are, to the end or as many as the budget allows. So many were
+// made before. The record was judged when the removal was started, and every step keeps it in range, so that
+// no step needs to judge it again.
+fn steps(panel: Record, slots: &mut [u64], begun: Effect, before: u32, budget: u64) -> Ran
+    requires { ⌜ (inRange (length (now slots)) (withWriter panel (begun .work)) ≡ true) × (isUnderway (stepAnswer before (paperProgress (begun .progress))) ≡ not (isWriterIdle (begun .work))) × (removes (begun .work) ≡ true) ⌝ }
+    ensures { λ r. ⌜ (outcome (withWriter (leaves panel (r .changes)) (r .work)) (now (slots .exit)) (stepAnswer (r .steps) (paperProgress (r .progress))) ≡ untilEnded writerStep budget (outcome (withWriter panel (begun .work)) (now (slots .entry)) (stepAnswer before (paperProgress (begun .progress))))) × (isUnderway (stepAnswer (r .steps) (paperProgress (r .progress))) ≡ not (isWriterIdle (r .work))) ⌝ }
 {
     let mut held = panel;
     let mut index = 0;
     let mut work = begun.work;
     let mut progress = begun.progress;
+    let mut steps = before;
     let mut left = while_underway(budget, goes_on(progress));
     while 0 < left {
         let counts = held.counts;
-        let made = writer_access(held.m, held.k, held.reach, &counts, work);
+        let counted = writer_counted(work, held.k);
+        let made = writer_access(held.m, held.k, held.reach, &counts, counted);
         let word = perform(slots, made);
         let slot = slot_stored(made);
-        let next = writer_advance(held.k, held.reach, &counts, work, slot, word);
+        let next = writer_advance(held.k, held.reach, &counts, counted, slot, word);
+        steps = steps_made(counted);
         work = next.work;
         progress = next.progress;
         let update = next.update;
@@ -78,6 +85,7 @@ fn steps(panel: Record, slots: &mut [u64], begun: Effect, budget: u64) -> Ran
             count: count_of(held, index),
         },
         progress: progress,
+        steps: steps,
         work: work,
     }
 }
@@ -86,19 +94,32 @@ fn steps(panel: Record, slots: &mut [u64], begun: Effect, budget: u64) -> Ran
 pub fn whole_removal(panel: Record, slots: &mut [u64], point: u32) -> Written
     ensures { λ r. ⌜ (outcome (recordAfter panel r) (now (slots .exit)) (paperWritten r) ≡ wholeRemoval panel (now (slots .entry)) point) × (changesIn r ≡ changesOf panel (wholeRemoval panel (now (slots .entry)) point)) ⌝ }
 {
-    let budget = panel.k as u64 + 3;
-    let removal = Removal {
-        point: point,
-        stage: RemovalStage::Searching(Search::Unread),
-    };
+    let budget = step_bound(OperationKind::Removal, panel.k);
     match judge_start(panel, slots.len(), point) {
         Judged::Refused(refusal) => Written::Refused(refusal),
         Judged::Allowed => {
-            let answer = whole_search(slots, panel.m, point, panel.reach);
-            let ran = steps(panel, slots, removal_answered(removal, answer), budget);
+            let found = whole_search(slots, panel.m, point, panel.reach);
+            let answer = found.answer;
+            let removal = Removal {
+                point: point,
+                stage: RemovalStage::Searching(Search::Unread),
+                steps: found.steps,
+            };
+            let ran = steps(
+                panel,
+                slots,
+                removal_answered(removal, answer),
+                found.steps,
+                budget,
+            );
             let changes = ran.changes;
             let progress = ran.progress;
-            handed_back(changes, count_of(panel, changes.index), progress)
+            handed_back(
+                changes,
+                count_of(panel, changes.index),
+                progress,
+                ran.steps,
+            )
         }
     }
 }

@@ -17,11 +17,11 @@ changes-made-requires : tie.Need-changes-made-requires
 changes-made-requires c κs = search needs
 
 returns : tie.Need-returns
-returns c = absurd (false≢true (sym (c .before .before .pre) ∙ ap (λ (p : Progress). isUnderway (stepAnswer (paperProgress p))) (c .enum-told .given .1)))
+returns c = absurd (false≢true (sym (c .before .before .pre) ∙ ap (λ (p : Progress). isUnderway (stepAnswer (c .before .before .args .steps) (paperProgress p))) (c .enum-told .given .1)))
 
 returns-2 : tie.Need-returns-2
 returns-2 c =
-    (sym (ap (λ (p : Progress). stepAnswer (paperProgress p)) (c .before .before .progress .given .1)), c .changes-made .ensures, λ panel. refl)
+    (sym (ap (λ (p : Progress). stepAnswer (c .before .before .before .before .args .steps) (paperProgress p)) (c .before .before .progress .given .1)), c .changes-made .ensures, λ panel. refl)
 
 pub handed-back-spec : {M : Type 1} → statement M
 handed-back-spec = tie.close (tie.spec enum-told enum-known-progress changes-made-requires returns returns-2)

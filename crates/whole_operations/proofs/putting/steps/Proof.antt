@@ -7,28 +7,29 @@ use native.Mathlib.Omega.{arith}
 use lib.ListN.{length}
 use borrow.Author.Needs.{needs}
 use Rattle.record.specs.Parts.{withReach, withNumbered, withCounts, withCount, withWriter, countOf}
+use Rattle.counting.specs.Counting.{oneMore}
 use Rattle.answers.specs.Answers.{stepAnswer, paperProgress, isUnderway, outcome}
-use Rattle.effects.specs.Counts.{oneMore, counted}
+use Rattle.effects.specs.Counts.{counted}
 use Rattle.effects.specs.Effects.{paperEffect}
 use Rattle.writer.proofs.WriterLaws.{slots-length, AtWork}
 use Rattle.whole_operations.specs.Whole.{writerStep, leaves}
 use Rattle.whole_operations.specs.WholeFacts.{puts}
 use Rattle.whole_operations.proofs.WholeLaws.{fewer, still, OnTheWay, sets-out, arrives, steps-on}
 use Rattle.whole_operations.proofs.WholeEnds.{stays-at-work}
-use Rattle.whole_operations.proofs.Puts.{effect-adds, step-kept}
+use Rattle.whole_operations.proofs.Puts.{effect-adds, counted-puts, step-kept}
 use Rattle.whole_operations.proofs.putting.steps.Statement.{statement}
 use Rattle.whole_operations.proofs.putting.steps.Tie as tie
 
 abbrev Inv-loop : tie.InvT-loop
-Inv-loop panel slots₀ budget reach₀ index₀ work₀ progress₀ left₀ slots reach index work progress left =
+Inv-loop panel slots₀ before budget reach₀ index₀ work₀ progress₀ steps₀ left₀ slots reach index work progress steps left =
     (length slots ≡ length slots₀)
-    × OnTheWay writerStep AtWork (outcome (withWriter panel work₀) slots₀ (stepAnswer (paperProgress progress₀))) budget left
-    (outcome (withWriter (counted (withReach panel reach) index) work) slots (stepAnswer (paperProgress progress)))
+    × OnTheWay writerStep AtWork (outcome (withWriter panel work₀) slots₀ (stepAnswer before (paperProgress progress₀))) budget left
+    (outcome (withWriter (counted (withReach panel reach) index) work) slots (stepAnswer steps (paperProgress progress)))
     × (1 ≤ left → index ≡ 0)
     × (puts work ≡ true)
 
 abbrev μ-loop : tie.MeasureT-loop
-μ-loop panel slots₀ budget reach₀ index₀ work₀ progress₀ left₀ slots reach index work progress left = left
+μ-loop panel slots₀ before budget reach₀ index₀ work₀ progress₀ steps₀ left₀ slots reach index work progress steps left = left
 
 goes-on-requires : tie.Need-goes-on-requires Inv-loop μ-loop
 goes-on-requires c κs = search needs
@@ -43,13 +44,18 @@ loop-holds c =
     let a = start .args in (
       refl,
       sets-out writerStep AtWork _ (a .budget) _ (record { fits = start .pre .0; busy = start .pre .1 })
-          (c .while-underway .ensures ∙ ap (λ (b : Bool). cond b (a .budget) 0) (c .before .goes-on .ensures)),
+          (c .while-underway .ensures ∙ ap (λ (b : Bool). cond b (a .budget) 0) (c .before .goes-on .ensures (a .before))),
       λ h. refl,
       start .pre .2,
     )
 
+writer-counted-requires : tie.Need-writer-counted-requires Inv-loop μ-loop
+writer-counted-requires c κs = search needs
+
 access-requires : tie.Need-access-requires Inv-loop μ-loop
-access-requires c κs = c .before .loop .inv .3
+access-requires c κs =
+    let l = c .before .before .loop in
+    ap puts (c .writer-counted .ensures) ∙ counted-puts (c .before .before .before .before .before .before .args .panel .k) (l .work) (l .inv .3)
 
 perform-requires : tie.Need-perform-requires Inv-loop μ-loop
 perform-requires c κs = search needs
@@ -58,7 +64,12 @@ slot-stored-requires : tie.Need-slot-stored-requires Inv-loop μ-loop
 slot-stored-requires c κs = search needs
 
 advance-requires : tie.Need-advance-requires Inv-loop μ-loop
-advance-requires c κs = c .before .before .before .before .before .before .before .loop .inv .3
+advance-requires c κs =
+    let l = c .before .before .before .before .before .before .before .before .loop in
+    ap puts (c .before .before .before .before .before .before .writer-counted .ensures) ∙ counted-puts (c .before .before .before .before .before .before .before .before .before .before .before .before .args .panel .k) (l .work) (l .inv .3)
+
+steps-made-requires : tie.Need-steps-made-requires Inv-loop μ-loop
+steps-made-requires c κs = search needs
 
 reach-after-requires : tie.Need-reach-after-requires Inv-loop μ-loop
 reach-after-requires c κs = search needs
@@ -67,7 +78,7 @@ index-counted-requires : tie.Need-index-counted-requires Inv-loop μ-loop
 index-counted-requires c κs = search needs
 
 sub-while-underway : tie.Need-sub-while-underway Inv-loop μ-loop
-sub-while-underway c = omega (arith, c .before .before .before .before .before .before .before .before .before .loop-test)
+sub-while-underway c = omega (arith, c .before .before .before .before .before .before .before .before .before .before .before .loop-test)
 
 goes-on-requires-2 : tie.Need-goes-on-requires-2 Inv-loop μ-loop
 goes-on-requires-2 c κs = search needs
@@ -76,25 +87,28 @@ while-underway-requires-2 : tie.Need-while-underway-requires-2 Inv-loop μ-loop
 while-underway-requires-2 c κs = search needs
 
 loop-less : tie.Need-loop-less Inv-loop μ-loop
-loop-less c = fewer (c .before .before .before .before .before .before .before .before .before .before .before .before .loop .left) _ (c .before .goes-on2 .result) (omega (arith, c .before .before .before .before .before .before .before .before .before .before .before .loop-test)) (c .while-underway2 .ensures)
+loop-less c = fewer (c .before .before .before .before .before .before .before .before .before .before .before .before .before .before .loop .left) _ (c .before .goes-on2 .result) (omega (arith, c .before .before .before .before .before .before .before .before .before .before .before .before .before .loop-test)) (c .while-underway2 .ensures)
 
 loop-again : tie.Need-loop-again Inv-loop μ-loop
 loop-again c =
-    let a = c .before .before .before .before .before .before .before .before .before .before .before .before .before .before .before .before .args in
-    let l = c .before .before .before .before .before .before .before .before .before .before .before .before .loop in
-    let more = c .before .before .before .before .before .before .before .before .before .before .before .loop-test in
+    let a = c .before .before .before .before .before .before .before .before .before .before .before .before .before .before .before .before .before .before .args in
+    let l = c .before .before .before .before .before .before .before .before .before .before .before .before .before .before .loop in
+    let more = c .before .before .before .before .before .before .before .before .before .before .before .before .before .loop-test in
     let none = l .inv .2 (omega arith) in
-    let performed = c .before .before .before .before .before .before .before .before .perform .ensures in
-    let effect = c .before .before .before .before .advance in
-    let adds = effect-adds (withReach (a .panel) (l .reach)) (l .work) _ _ (paperEffect (effect .result)) (l .inv .3) (effect .ensures) in
+    let made = c .before .before .before .before .before .before .before .before .before .before .before .before .writer-counted in
+    let performed = c .before .before .before .before .before .before .before .before .before .perform .ensures in
+    let effect = c .before .before .before .before .before .advance in
+    let steps = c .before .before .before .before .steps-made in
+    let kind = ap puts (made .ensures) ∙ counted-puts (a .panel .k) (l .work) (l .inv .3) in
+    let adds = effect-adds (withReach (a .panel) (l .reach)) (made .result) _ _ (paperEffect (effect .result)) kind (effect .ensures) in
     let takes =
-    step-kept (a .panel) (l .reach) (l .index) _ _ (l .slots) _ (l .work) (stepAnswer (paperProgress (l .progress))) _ _ _ (paperEffect (effect .result)) none adds
-    (l .inv .1 .holds) (l .inv .1 .goes (omega arith)) (c .before .before .before .before .before .before .before .before .before .before .access .ensures) (c .before .before .before .before .before .slot-stored .ensures) (performed .0) (performed .1) (effect .ensures)
+    step-kept (a .panel) (l .reach) (l .index) _ _ (l .slots) _ (l .work) (made .result) (stepAnswer (l .steps) (paperProgress (l .progress))) _ _ _ _ (paperEffect (effect .result)) none adds
+    (l .inv .1 .holds) (l .inv .1 .goes (omega arith)) (made .ensures) (c .before .before .before .before .before .before .before .before .before .before .before .access .ensures) (c .before .before .before .before .before .before .slot-stored .ensures) (performed .0) (performed .1) (effect .ensures) (steps .ensures)
     (c .before .before .before .reach-after .ensures) (c .before .before .index-counted .ensures) in
-    let next = c .while-underway2 .ensures ∙ ap (λ (b : Bool). cond b (l .left - 1) 0) (c .before .goes-on2 .ensures) in (
+    let next = c .while-underway2 .ensures ∙ ap (λ (b : Bool). cond b (l .left - 1) 0) (c .before .goes-on2 .ensures (steps .result)) in (
       ap length (performed .1) ∙ slots-length (l .slots) _ ∙ l .inv .0,
       steps-on writerStep AtWork stays-at-work _ _ (l .left) _ (l .inv .1) (omega arith) _ takes _ next,
-      λ h. c .before .before .index-counted .ensures ∙ adds .last (still (isUnderway (stepAnswer (paperProgress (effect .result .progress)))) _ _ next h),
+      λ h. c .before .before .index-counted .ensures ∙ adds .last (steps .result) (still (isUnderway (stepAnswer (steps .result) (paperProgress (effect .result .progress)))) _ _ next h),
       adds .same-kind,
     )
 
@@ -112,7 +126,7 @@ unfolding leaves counted withReach withWriter withCount withCounts countOf
 returns c =
     let a = c .before .before .before .before .before .before .before .args in
     let l = c .before .before .before .loop in (
-      ap (λ (count : ℕ). outcome (withWriter (withCount (withReach (a .panel) (l .reach)) (l .index) count) (l .work)) (l .slots) (stepAnswer (paperProgress (l .progress)))) (c .one-more .ensures ∙ ap (oneMore (a .panel .m)) (c .before .count-of .ensures))
+      ap (λ (count : ℕ). outcome (withWriter (withCount (withReach (a .panel) (l .reach)) (l .index) count) (l .work)) (l .slots) (stepAnswer (l .steps) (paperProgress (l .progress)))) (c .one-more .ensures ∙ ap (oneMore (a .panel .m)) (c .before .count-of .ensures))
           ∙ arrives writerStep AtWork stays-at-work _ _ (l .left) _ (l .inv .1) (omega (arith, c .before .before .loop-test)),
       l .inv .1 .holds .busy,
     )
@@ -126,10 +140,12 @@ steps-spec =
     goes-on-requires
     while-underway-requires
     loop-holds
+    writer-counted-requires
     access-requires
     perform-requires
     slot-stored-requires
     advance-requires
+    steps-made-requires
     reach-after-requires
     index-counted-requires
     sub-while-underway

@@ -1,21 +1,21 @@
 -- `whole_operations::putting::whole_put` meets its contract: refused, or searched and then stepped to the end.
-use Prim.Native.Nat.{_+_, _*_}
 use mathlib.Core.Path.{refl, _∙_, sym, ap}
 use native.Mathlib.Omega.{arith}
 use denote.Ref.{now}
 use borrow.Author.Needs.{needs}
 use Rattle.refusal.specs.Refusals.{paperJudged}
 use Rattle.record.specs.declared.Search.the-variants.{Unread}
-use Rattle.record.specs.declared.Put.{Put}
 use Rattle.record.specs.declared.PutStage.the-variants.{Searching}
-use Rattle.record.specs.declared.WriterWork.the-variants.{Putting}
 use Rattle.record.specs.Parts.{withReach, withCounts, withCount, withWriter}
 use Rattle.record.proofs.Numbered.{mapped-length}
+use Rattle.counting.specs.declared.steps.OperationKind.the-variants.{Put}
+use Rattle.counting.specs.Steps.{stepBound}
 use Rattle.answers.specs.Answers.{paperProgress}
 use Rattle.effects.specs.Effects.{WriterEffect}
 use Rattle.put.specs.Put.{putAnswered}
-use Rattle.writer.specs.Starts.{startPut}
+use Rattle.writer.specs.Starts.{putBegun, startPut}
 use Rattle.writer.proofs.WriterLaws.{put-begins}
+use Rattle.whole_operations.specs.declared.searching.SearchEnd.{SearchEnd}
 use Rattle.whole_operations.specs.Whole.{wholePut, changesOf, leaves}
 use Rattle.whole_operations.specs.WholeFacts.{puts}
 use Rattle.whole_operations.proofs.ChangesMade.{hands-back}
@@ -25,14 +25,8 @@ use Rattle.whole_operations.proofs.WriterSearch.{pointOfWork, searching
 use Rattle.whole_operations.proofs.putting.whole_put.Statement.{statement}
 use Rattle.whole_operations.proofs.putting.whole_put.Tie as tie
 
-cast-budget : tie.Need-cast-budget
-cast-budget c = search needs
-
-mul-budget : tie.Need-mul-budget
-mul-budget c = search needs
-
-add-budget : tie.Need-add-budget
-add-budget c = search needs
+step-bound-requires : tie.Need-step-bound-requires
+step-bound-requires c κs = search needs
 
 judge-start-requires : tie.Need-judge-start-requires
 judge-start-requires c κs = search needs
@@ -47,7 +41,7 @@ whole-search-requires : tie.Need-whole-search-requires
 whole-search-requires c κs =
     let a = c .before .before .before .before .before .before .args in
     let e = sym (c .before .before .before .judge-start .ensures) ∙ ap paperJudged (c .before .enum-told .given .1) in
-    reach-fits (a .panel) (now (a .slots)) (a .point) (Putting (record { point = a .point; value = a .value; stage = Searching Unread })) (2 * a .panel .k + 2) e
+    reach-fits (a .panel) (now (a .slots)) (a .point) (putBegun (a .point) (a .value)) (stepBound Put (a .panel .k)) e
 
 put-answered-requires : tie.Need-put-answered-requires
 put-answered-requires c κs = search needs
@@ -57,11 +51,12 @@ unfolding wholePut startPut searchingBy pointOfWork answeredBy withWriter
 steps-requires c κs =
     let a = c .before .before .before .before .before .before .before .before .before .args in
     let s = now (a .slots) in
-    let put : Put = record { point = a .point; value = a .value; stage = Searching Unread } in
     let e = sym (c .before .before .before .before .before .before .judge-start .ensures) ∙ ap paperJudged (c .before .before .before .before .enum-told .given .1) in
-    let effect = c .put-answered .ensures ∙ ap (putAnswered put) (c .before .before .whole-search .ensures) in
-    let held = effect-at-work (a .panel) s (a .point) (Putting put) (2 * a .panel .k + 2) e (omega arith) refl (λ answer. answered-puts put answer .0) refl refl (put-begins (a .panel) s (a .point) (a .value)) (whole-put-ends (a .panel) s (a .point) (a .value)) _ effect in
-    (held .fits, held .busy, ap (λ (m : WriterEffect). puts (m .work)) effect ∙ answered-puts put _ .1)
+    let answered : SearchEnd → WriterEffect = λ found. putAnswered (record { point = a .point; value = a .value; stage = Searching Unread; steps = found .steps }) (found .answer) in
+    let count = ap (λ (found : SearchEnd). found .steps) (c .before .before .whole-search .ensures) in
+    let effect = c .put-answered .ensures ∙ ap answered (c .before .before .whole-search .ensures) in
+    let held = effect-at-work (a .panel) s (a .point) (putBegun (a .point) (a .value)) (stepBound Put (a .panel .k)) e (omega arith) refl (λ steps answer. answered-puts _ answer .0) refl refl (put-begins (a .panel) s (a .point) (a .value)) (whole-put-ends (a .panel) s (a .point) (a .value)) _ _ count effect in
+    (held .fits, held .busy, ap (λ (m : WriterEffect). puts (m .work)) effect ∙ answered-puts _ _ .1)
 
 count-of-requires : tie.Need-count-of-requires
 count-of-requires c κs = search needs
@@ -71,11 +66,12 @@ unfolding wholePut startPut leaves withReach withCount withCounts searchingBy po
 handed-back-requires c κs =
     let a = c .before .before .before .before .before .before .before .before .before .before .before .before .before .before .args in
     let s = now (a .slots) in
-    let put : Put = record { point = a .point; value = a .value; stage = Searching Unread } in
     let e = sym (c .before .before .before .before .before .before .before .before .before .before .before .judge-start .ensures) ∙ ap paperJudged (c .before .before .before .before .before .before .before .before .before .enum-told .given .1) in
-    let effect = c .before .before .before .before .before .put-answered .ensures ∙ ap (putAnswered put) (c .before .before .before .before .before .before .before .whole-search .ensures) in
+    let answered : SearchEnd → WriterEffect = λ found. putAnswered (record { point = a .point; value = a .value; stage = Searching Unread; steps = found .steps }) (found .answer) in
+    let count = ap (λ (found : SearchEnd). found .steps) (c .before .before .before .before .before .before .before .whole-search .ensures) in
+    let effect = c .before .before .before .before .before .put-answered .ensures ∙ ap answered (c .before .before .before .before .before .before .before .whole-search .ensures) in
     let ran = c .before .before .before .before .steps .ensures in
-    has-answer (a .panel) s (a .point) (Putting put) (2 * a .panel .k + 2) e (omega arith) refl (λ answer. answered-puts put answer .0) refl refl (put-begins (a .panel) s (a .point) (a .value)) (whole-put-ends (a .panel) s (a .point) (a .value)) _ effect _ _ _ _ refl (ran .1) (ran .0)
+    has-answer (a .panel) s (a .point) (putBegun (a .point) (a .value)) (stepBound Put (a .panel .k)) e (omega arith) refl (λ steps answer. answered-puts _ answer .0) refl refl (put-begins (a .panel) s (a .point) (a .value)) (whole-put-ends (a .panel) s (a .point) (a .value)) _ _ count effect _ (c .before .before .before .before .before .before .before .before .before .before .before .before .step-bound .ensures) _ _ _ _ refl (ran .1) (ran .0)
 
 returns : tie.Need-returns
 unfolding wholePut startPut changesOf
@@ -83,7 +79,7 @@ returns c =
     let a = c .before .before .before .before .before .before .args in
     let s = now (a .slots) in
     let e = sym (c .before .before .before .judge-start .ensures) ∙ ap paperJudged (c .before .refusal .given .1) in
-    let same = run-refused (a .panel) s (a .point) _ (2 * a .panel .k + 2) (c .before .refusal .given .0 .0) e in
+    let same = run-refused (a .panel) s (a .point) _ (stepBound Put (a .panel .k)) (c .before .refusal .given .0 .0) e in
     (same, ap (changesOf (a .panel)) same)
 
 same-length : tie.Need-same-length
@@ -94,22 +90,21 @@ unfolding wholePut startPut leaves withReach withCount withCounts searchingBy po
 returns-2 c =
     let a = c .before .before .before .before .before .before .before .before .before .before .before .before .before .before .before .args in
     let s = now (a .slots) in
-    let put : Put = record { point = a .point; value = a .value; stage = Searching Unread } in
     let e = sym (c .before .before .before .before .before .before .before .before .before .before .before .before .judge-start .ensures) ∙ ap paperJudged (c .before .before .before .before .before .before .before .before .before .before .enum-told .given .1) in
-    let effect = c .before .before .before .before .before .before .put-answered .ensures ∙ ap (putAnswered put) (c .before .before .before .before .before .before .before .before .whole-search .ensures) in
+    let answered : SearchEnd → WriterEffect = λ found. putAnswered (record { point = a .point; value = a .value; stage = Searching Unread; steps = found .steps }) (found .answer) in
+    let count = ap (λ (found : SearchEnd). found .steps) (c .before .before .before .before .before .before .before .before .whole-search .ensures) in
+    let effect = c .before .before .before .before .before .before .put-answered .ensures ∙ ap answered (c .before .before .before .before .before .before .before .before .whole-search .ensures) in
     let ran = c .before .before .before .before .before .steps .ensures in
     let all = mapped-length (a .panel .counts) _ 64 (c .before .before .before .before .before .before .before .before .before .before .before .before .before .before .before .good .0 .1 .1 .1 .1 .1 .0 .1 .0 .1) in
     let given = c .before .before .before .before .before .steps .result in
-    hands-back (a .panel) (given .changes) (c .before .count-of .result) _ (paperProgress (given .progress)) (c .handed-back .result) (wholePut (a .panel) s (a .point) (a .value)) all (c .before .count-of .ensures) (c .handed-back .ensures)
-    (whole-ended (a .panel) s (a .point) (Putting put) (2 * a .panel .k + 2) e (omega arith) refl (λ answer. answered-puts put answer .0) refl refl (put-begins (a .panel) s (a .point) (a .value)) (whole-put-ends (a .panel) s (a .point) (a .value)) _ effect _ _ _ _ refl (ran .1) (ran .0))
+    hands-back (a .panel) (given .changes) (c .before .count-of .result) _ (given .steps) (paperProgress (given .progress)) (c .handed-back .result) (wholePut (a .panel) s (a .point) (a .value)) all (c .before .count-of .ensures) (c .handed-back .ensures)
+    (whole-ended (a .panel) s (a .point) (putBegun (a .point) (a .value)) (stepBound Put (a .panel .k)) e (omega arith) refl (λ steps answer. answered-puts _ answer .0) refl refl (put-begins (a .panel) s (a .point) (a .value)) (whole-put-ends (a .panel) s (a .point) (a .value)) _ _ count effect _ (c .before .before .before .before .before .before .before .before .before .before .before .before .before .step-bound .ensures) _ _ _ _ refl (ran .1) (ran .0))
 
 pub whole-put-spec : {M : Type 1} → statement M
 whole-put-spec =
     tie.close
     (tie.spec
-    cast-budget
-    mul-budget
-    add-budget
+    step-bound-requires
     judge-start-requires
     enum-known-refusal
     enum-told

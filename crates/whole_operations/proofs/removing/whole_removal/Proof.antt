@@ -1,21 +1,21 @@
 -- `whole_operations::removing::whole_removal` meets its contract: refused, or searched and then stepped to the end.
-use Prim.Native.Nat.{_+_}
 use mathlib.Core.Path.{refl, _∙_, sym, ap}
 use native.Mathlib.Omega.{arith}
 use denote.Ref.{now}
 use borrow.Author.Needs.{needs}
 use Rattle.refusal.specs.Refusals.{paperJudged}
 use Rattle.record.specs.declared.Search.the-variants.{Unread}
-use Rattle.record.specs.declared.Removal.{Removal}
 use Rattle.record.specs.declared.RemovalStage.the-variants.{Searching}
-use Rattle.record.specs.declared.WriterWork.the-variants.{Removing}
 use Rattle.record.specs.Parts.{withReach, withCounts, withCount, withWriter}
 use Rattle.record.proofs.Numbered.{mapped-length}
+use Rattle.counting.specs.declared.steps.OperationKind.the-variants.{Removal}
+use Rattle.counting.specs.Steps.{stepBound}
 use Rattle.answers.specs.Answers.{paperProgress}
 use Rattle.effects.specs.Effects.{WriterEffect}
 use Rattle.removal.specs.Removal.{removalAnswered}
-use Rattle.writer.specs.Starts.{startRemoval}
+use Rattle.writer.specs.Starts.{removalBegun, startRemoval}
 use Rattle.writer.proofs.WriterLaws.{removal-begins}
+use Rattle.whole_operations.specs.declared.searching.SearchEnd.{SearchEnd}
 use Rattle.whole_operations.specs.Whole.{wholeRemoval, changesOf, leaves}
 use Rattle.whole_operations.specs.WholeFacts.{removes}
 use Rattle.whole_operations.proofs.ChangesMade.{hands-back}
@@ -25,11 +25,8 @@ use Rattle.whole_operations.proofs.WriterSearch.{pointOfWork, searching
 use Rattle.whole_operations.proofs.removing.whole_removal.Statement.{statement}
 use Rattle.whole_operations.proofs.removing.whole_removal.Tie as tie
 
-cast-budget : tie.Need-cast-budget
-cast-budget c = search needs
-
-add-budget : tie.Need-add-budget
-add-budget c = search needs
+step-bound-requires : tie.Need-step-bound-requires
+step-bound-requires c κs = search needs
 
 judge-start-requires : tie.Need-judge-start-requires
 judge-start-requires c κs = search needs
@@ -44,7 +41,7 @@ whole-search-requires : tie.Need-whole-search-requires
 whole-search-requires c κs =
     let a = c .before .before .before .before .before .before .args in
     let e = sym (c .before .before .before .judge-start .ensures) ∙ ap paperJudged (c .before .enum-told .given .1) in
-    reach-fits (a .panel) (now (a .slots)) (a .point) (Removing (record { point = a .point; stage = Searching Unread })) (a .panel .k + 3) e
+    reach-fits (a .panel) (now (a .slots)) (a .point) (removalBegun (a .point)) (stepBound Removal (a .panel .k)) e
 
 removal-answered-requires : tie.Need-removal-answered-requires
 removal-answered-requires c κs = search needs
@@ -54,11 +51,12 @@ unfolding wholeRemoval startRemoval searchingBy pointOfWork answeredBy withWrite
 steps-requires c κs =
     let a = c .before .before .before .before .before .before .before .before .before .args in
     let s = now (a .slots) in
-    let removal : Removal = record { point = a .point; stage = Searching Unread } in
     let e = sym (c .before .before .before .before .before .before .judge-start .ensures) ∙ ap paperJudged (c .before .before .before .before .enum-told .given .1) in
-    let effect = c .removal-answered .ensures ∙ ap (removalAnswered removal) (c .before .before .whole-search .ensures) in
-    let held = effect-at-work (a .panel) s (a .point) (Removing removal) (a .panel .k + 3) e (omega arith) refl (λ answer. answered-removes removal answer .0) refl refl (removal-begins (a .panel) s (a .point)) (whole-removal-ends (a .panel) s (a .point)) _ effect in
-    (held .fits, held .busy, ap (λ (m : WriterEffect). removes (m .work)) effect ∙ answered-removes removal _ .1)
+    let answered : SearchEnd → WriterEffect = λ found. removalAnswered (record { point = a .point; stage = Searching Unread; steps = found .steps }) (found .answer) in
+    let count = ap (λ (found : SearchEnd). found .steps) (c .before .before .whole-search .ensures) in
+    let effect = c .removal-answered .ensures ∙ ap answered (c .before .before .whole-search .ensures) in
+    let held = effect-at-work (a .panel) s (a .point) (removalBegun (a .point)) (stepBound Removal (a .panel .k)) e (omega arith) refl (λ steps answer. answered-removes _ answer .0) refl refl (removal-begins (a .panel) s (a .point)) (whole-removal-ends (a .panel) s (a .point)) _ _ count effect in
+    (held .fits, held .busy, ap (λ (m : WriterEffect). removes (m .work)) effect ∙ answered-removes _ _ .1)
 
 count-of-requires : tie.Need-count-of-requires
 count-of-requires c κs = search needs
@@ -68,11 +66,12 @@ unfolding wholeRemoval startRemoval leaves withReach withCount withCounts search
 handed-back-requires c κs =
     let a = c .before .before .before .before .before .before .before .before .before .before .before .before .before .before .args in
     let s = now (a .slots) in
-    let removal : Removal = record { point = a .point; stage = Searching Unread } in
     let e = sym (c .before .before .before .before .before .before .before .before .before .before .before .judge-start .ensures) ∙ ap paperJudged (c .before .before .before .before .before .before .before .before .before .enum-told .given .1) in
-    let effect = c .before .before .before .before .before .removal-answered .ensures ∙ ap (removalAnswered removal) (c .before .before .before .before .before .before .before .whole-search .ensures) in
+    let answered : SearchEnd → WriterEffect = λ found. removalAnswered (record { point = a .point; stage = Searching Unread; steps = found .steps }) (found .answer) in
+    let count = ap (λ (found : SearchEnd). found .steps) (c .before .before .before .before .before .before .before .whole-search .ensures) in
+    let effect = c .before .before .before .before .before .removal-answered .ensures ∙ ap answered (c .before .before .before .before .before .before .before .whole-search .ensures) in
     let ran = c .before .before .before .before .steps .ensures in
-    has-answer (a .panel) s (a .point) (Removing removal) (a .panel .k + 3) e (omega arith) refl (λ answer. answered-removes removal answer .0) refl refl (removal-begins (a .panel) s (a .point)) (whole-removal-ends (a .panel) s (a .point)) _ effect _ _ _ _ refl (ran .1) (ran .0)
+    has-answer (a .panel) s (a .point) (removalBegun (a .point)) (stepBound Removal (a .panel .k)) e (omega arith) refl (λ steps answer. answered-removes _ answer .0) refl refl (removal-begins (a .panel) s (a .point)) (whole-removal-ends (a .panel) s (a .point)) _ _ count effect _ (c .before .before .before .before .before .before .before .before .before .before .before .before .step-bound .ensures) _ _ _ _ refl (ran .1) (ran .0)
 
 returns : tie.Need-returns
 unfolding wholeRemoval startRemoval changesOf
@@ -80,7 +79,7 @@ returns c =
     let a = c .before .before .before .before .before .before .args in
     let s = now (a .slots) in
     let e = sym (c .before .before .before .judge-start .ensures) ∙ ap paperJudged (c .before .refusal .given .1) in
-    let same = run-refused (a .panel) s (a .point) _ (a .panel .k + 3) (c .before .refusal .given .0 .0) e in
+    let same = run-refused (a .panel) s (a .point) _ (stepBound Removal (a .panel .k)) (c .before .refusal .given .0 .0) e in
     (same, ap (changesOf (a .panel)) same)
 
 same-length : tie.Need-same-length
@@ -91,21 +90,21 @@ unfolding wholeRemoval startRemoval leaves withReach withCount withCounts search
 returns-2 c =
     let a = c .before .before .before .before .before .before .before .before .before .before .before .before .before .before .before .args in
     let s = now (a .slots) in
-    let removal : Removal = record { point = a .point; stage = Searching Unread } in
     let e = sym (c .before .before .before .before .before .before .before .before .before .before .before .before .judge-start .ensures) ∙ ap paperJudged (c .before .before .before .before .before .before .before .before .before .before .enum-told .given .1) in
-    let effect = c .before .before .before .before .before .before .removal-answered .ensures ∙ ap (removalAnswered removal) (c .before .before .before .before .before .before .before .before .whole-search .ensures) in
+    let answered : SearchEnd → WriterEffect = λ found. removalAnswered (record { point = a .point; stage = Searching Unread; steps = found .steps }) (found .answer) in
+    let count = ap (λ (found : SearchEnd). found .steps) (c .before .before .before .before .before .before .before .before .whole-search .ensures) in
+    let effect = c .before .before .before .before .before .before .removal-answered .ensures ∙ ap answered (c .before .before .before .before .before .before .before .before .whole-search .ensures) in
     let ran = c .before .before .before .before .before .steps .ensures in
     let all = mapped-length (a .panel .counts) _ 64 (c .before .before .before .before .before .before .before .before .before .before .before .before .before .before .before .good .0 .1 .1 .1 .1 .1 .0 .1 .0 .1) in
     let given = c .before .before .before .before .before .steps .result in
-    hands-back (a .panel) (given .changes) (c .before .count-of .result) _ (paperProgress (given .progress)) (c .handed-back .result) (wholeRemoval (a .panel) s (a .point)) all (c .before .count-of .ensures) (c .handed-back .ensures)
-    (whole-ended (a .panel) s (a .point) (Removing removal) (a .panel .k + 3) e (omega arith) refl (λ answer. answered-removes removal answer .0) refl refl (removal-begins (a .panel) s (a .point)) (whole-removal-ends (a .panel) s (a .point)) _ effect _ _ _ _ refl (ran .1) (ran .0))
+    hands-back (a .panel) (given .changes) (c .before .count-of .result) _ (given .steps) (paperProgress (given .progress)) (c .handed-back .result) (wholeRemoval (a .panel) s (a .point)) all (c .before .count-of .ensures) (c .handed-back .ensures)
+    (whole-ended (a .panel) s (a .point) (removalBegun (a .point)) (stepBound Removal (a .panel .k)) e (omega arith) refl (λ steps answer. answered-removes _ answer .0) refl refl (removal-begins (a .panel) s (a .point)) (whole-removal-ends (a .panel) s (a .point)) _ _ count effect _ (c .before .before .before .before .before .before .before .before .before .before .before .before .before .step-bound .ensures) _ _ _ _ refl (ran .1) (ran .0))
 
 pub whole-removal-spec : {M : Type 1} → statement M
 whole-removal-spec =
     tie.close
     (tie.spec
-    cast-budget
-    add-budget
+    step-bound-requires
     judge-start-requires
     enum-known-refusal
     enum-told

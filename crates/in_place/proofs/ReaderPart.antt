@@ -53,7 +53,7 @@ use Rattle.in_place.proofs.Outcome.{OutcomeOf, outcome-of, Outcome, str
 use Rattle.in_place.proofs.Panel.{reader}
 use Rattle.in_place.proofs.Params.{numbers, numbers-make, slots, tys, args, passed, Related, well-typed}
 use Rattle.in_place.proofs.PartWalk.{Access, Located, Accesses, panelTy, slotsTy, first-locals, named-locals, next-locals, function, next-part, params, Arguments, slots-val, slots-own, fitting, Wrapper, 𝓣-of, Met, Ensures, in-place}
-use Rattle.in_place.proofs.RecordFields.{recordTy, readerTy, Holds, recordAt, readers-place, reader-val, reader-read, reader-stored, reader-holds, holds-with-reader, reader-inside}
+use Rattle.in_place.proofs.RecordFields.{recordTy, readerTy, Holds, recordAt, readers-place, reader-val, reader-read, reader-stored, reader-holds, holds-with-reader, reader-inside, readersAt, readerSize}
 use Rattle.in_place.proofs.Steps.{hears}
 
 -- the reader that is found, and the record with the reader of `next` in its place
@@ -115,7 +115,7 @@ module _ (L : OutcomeOf reader) (τs : List Ty) where
 
   -- the address of the reader in its place goes into the local j, by way of the local i
   abbrev addressed : ℕ → ℕ → Body → Body
-  addressed i j rest = seq (assign (place (suc (suc (next-at τs))) []) (op2 (mul unsigned) (copy (place (suc (fits-at τs)) [])) (int w64 20)))
+  addressed i j rest = seq (assign (place (suc (suc (next-at τs))) []) (op2 (mul unsigned) (copy (place (suc (fits-at τs)) [])) (int w64 readerSize)))
       (seq (assign (place i []) (addrOf (place 1 (deref recordTy ∷ field 5 ∷ []))))
       (seq (assign (place j []) (op2 offset (copy (place i [])) (copy (place (suc (suc (next-at τs))) [])))) rest))
 
@@ -156,7 +156,7 @@ module _ (L : OutcomeOf reader) (τs : List Ty) where
     -- the address of the reader in its place
     addresses : (Γ : List (Item 𝓤)) (E : Env 𝓤 H) (rest : Body) (q : Post 𝓤 H) {i j l₁ l₂ l₃ l₄ l₅ : ℕ}
         → getD E 1 (noLocal 𝓤 H) ≡ (panelTy, l₁) → getD E (suc (fits-at τs)) (noLocal 𝓤 H) ≡ (tyInt w64, l₂) → getD E (suc (suc (next-at τs))) (noLocal 𝓤 H) ≡ (tyInt w64, l₃) → getD E i (noLocal 𝓤 H) ≡ (tyPtr, l₄) → getD E j (noLocal 𝓤 H) ≡ (tyPtr, l₅)
-        → Step (Go {0}) W (‵ (fat fullShare panelTy l₁ 0 (vptr b o)) ∷ ‵ (fat fullShare (tyInt w64) l₂ 0 (vint w64 (readerPlace number))) ∷ ‵ (froom (tyInt w64) l₃ 0) ∷ ‵ (froom tyPtr l₄ 0) ∷ ‵ (fat fullShare tyPtr l₅ 0 (vptr b (readerPlace number * 20 + (o + 308)))) ∷ Γ) (runs C Λ E rest q)
+        → Step (Go {0}) W (‵ (fat fullShare panelTy l₁ 0 (vptr b o)) ∷ ‵ (fat fullShare (tyInt w64) l₂ 0 (vint w64 (readerPlace number))) ∷ ‵ (froom (tyInt w64) l₃ 0) ∷ ‵ (froom tyPtr l₄ 0) ∷ ‵ (fat fullShare tyPtr l₅ 0 (vptr b (readerPlace number * readerSize + (o + readersAt)))) ∷ Γ) (runs C Λ E rest q)
         (‵ (fat fullShare panelTy l₁ 0 (vptr b o)) ∷ ‵ (fat fullShare (tyInt w64) l₂ 0 (vint w64 (readerPlace number))) ∷ ‵ (froom (tyInt w64) l₃ 0) ∷ ‵ (froom tyPtr l₄ 0) ∷ ‵ (froom tyPtr l₅ 0) ∷ Γ) (runs C Λ E (addressed i j rest) q)
     addresses Γ E rest q at-1 at-2 at-3 at-4 at-5 = step (λ k.
         assigns ! (bin ! (load ! (found ! at-2 (stop !)) (look ! 1 refl)) (lit ! tt) (record { fits = reader-inside (readerPlace number) (reader-place-inside number) })) (found ! at-3 (stop !)) (init ! 2 refl (tt, record { fits = reader-inside (readerPlace number) (reader-place-inside number) })) $

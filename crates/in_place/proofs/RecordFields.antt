@@ -76,7 +76,25 @@ val panel = LL.val RecordType.the-type RecordLaws.the-laws panel
 abbrev pub Holds : Record → Type 0
 Holds panel = Is RecordType.the-row panel (val panel ∷ [])
 
--- ---- the fields' types and places
+-- ---- the fields' types and places, and the size of an element
+abbrev pub writerAt : ℕ
+writerAt = 268
+
+abbrev pub readersAt : ℕ
+readersAt = 312
+
+abbrev pub stationsAt : ℕ
+stationsAt = 696
+
+abbrev pub placeAt : ℕ
+placeAt = 1336
+
+abbrev pub readerSize : ℕ
+readerSize = 24
+
+abbrev pub stationSize : ℕ
+stationSize = 20
+
 m-found : fieldOf recordTy 0 ≡ some (tyInt w32, 0)
 m-found = refl
 
@@ -89,16 +107,16 @@ reach-found = refl
 counts-found : fieldOf recordTy 3 ≡ some (countsTy, 12)
 counts-found = refl
 
-writer-found : fieldOf recordTy 4 ≡ some (writerTy, 268)
+writer-found : fieldOf recordTy 4 ≡ some (writerTy, writerAt)
 writer-found = refl
 
-pub readers-found : fieldOf recordTy 5 ≡ some (tyArray readerTy 16, 308)
+pub readers-found : fieldOf recordTy 5 ≡ some (tyArray readerTy 16, readersAt)
 readers-found = refl
 
-pub stations-found : fieldOf recordTy 6 ≡ some (tyArray stationTy 32, 628)
+pub stations-found : fieldOf recordTy 6 ≡ some (tyArray stationTy 32, stationsAt)
 stations-found = refl
 
-place-found : fieldOf recordTy 7 ≡ some (tyInt w32, 1268)
+place-found : fieldOf recordTy 7 ≡ some (tyInt w32, placeAt)
 place-found = refl
 
 module _ {M : Type 1} {𝓤 : URA M} {H : Heap 𝓤} {A : Atoms 𝓤} {K : Type 0} {W : Given 𝓤 H A} {Γ : List (Item 𝓤)} {E : Env 𝓤 H} {b o : ℕ} where
@@ -114,26 +132,26 @@ module _ {M : Type 1} {𝓤 : URA M} {H : Heap 𝓤} {A : Atoms 𝓤} {K : Type 
   pub counts-place : K → Walks K W Γ E (recordTy, b, o) (field 3 ∷ []) (countsTy, b, o + 12)
   counts-place t = fld t {τ = countsTy} {d = 12} counts-found (stop t)
 
-  pub writer-place : K → Walks K W Γ E (recordTy, b, o) (field 4 ∷ []) (writerTy, b, o + 268)
-  writer-place t = fld t {τ = writerTy} {d = 268} writer-found (stop t)
+  pub writer-place : K → Walks K W Γ E (recordTy, b, o) (field 4 ∷ []) (writerTy, b, o + writerAt)
+  writer-place t = fld t {τ = writerTy} {d = writerAt} writer-found (stop t)
 
-  pub readers-place : K → Walks K W Γ E (recordTy, b, o) (field 5 ∷ []) (tyArray readerTy 16, b, o + 308)
-  readers-place t = fld t {τ = tyArray readerTy 16} {d = 308} readers-found (stop t)
+  pub readers-place : K → Walks K W Γ E (recordTy, b, o) (field 5 ∷ []) (tyArray readerTy 16, b, o + readersAt)
+  readers-place t = fld t {τ = tyArray readerTy 16} {d = readersAt} readers-found (stop t)
 
-  pub stations-place : K → Walks K W Γ E (recordTy, b, o) (field 6 ∷ []) (tyArray stationTy 32, b, o + 628)
-  stations-place t = fld t {τ = tyArray stationTy 32} {d = 628} stations-found (stop t)
+  pub stations-place : K → Walks K W Γ E (recordTy, b, o) (field 6 ∷ []) (tyArray stationTy 32, b, o + stationsAt)
+  stations-place t = fld t {τ = tyArray stationTy 32} {d = stationsAt} stations-found (stop t)
 
-  pub place-place : K → Walks K W Γ E (recordTy, b, o) (field 7 ∷ []) (tyInt w32, b, o + 1268)
-  place-place t = fld t {τ = tyInt w32} {d = 1268} place-found (stop t)
+  pub place-place : K → Walks K W Γ E (recordTy, b, o) (field 7 ∷ []) (tyInt w32, b, o + placeAt)
+  place-place t = fld t {τ = tyInt w32} {d = placeAt} place-found (stop t)
 
 -- ---- how far into its array an element lies
 pub count-inside : (k : ℕ) → k < 64 → k * 4 < 2 ^ 64
 count-inside k l = omega arith
 
-pub reader-inside : (k : ℕ) → k < 16 → k * 20 < 2 ^ 64
+pub reader-inside : (k : ℕ) → k < 16 → k * readerSize < 2 ^ 64
 reader-inside k l = omega arith
 
-pub station-inside : (k : ℕ) → k < 32 → k * 20 < 2 ^ 64
+pub station-inside : (k : ℕ) → k < 32 → k * stationSize < 2 ^ 64
 station-inside k l = omega arith
 
 -- ---- the machine values of what is no number
@@ -170,25 +188,25 @@ module _ {M : Type 1} {𝓤 : URA M} {H : Heap 𝓤} {A : Atoms 𝓤} {K : Type 
   unfolding recordAt
   reach-read t q panel b o = look-in t 0 (sub t 2 {τ = tyInt w32} {d = 8} reach-found (behind t recordTy))
 
-  pub writer-read : K → (q : Share) (panel : Record) (b o : ℕ) → Reads K W (‵ (recordAt q panel b o) ∷ Γ) writerTy b (o + 268) (writer-val (panel .writer))
+  pub writer-read : K → (q : Share) (panel : Record) (b o : ℕ) → Reads K W (‵ (recordAt q panel b o) ∷ Γ) writerTy b (o + writerAt) (writer-val (panel .writer))
   unfolding recordAt
-  writer-read t q panel b o = look-in t 0 (sub t 4 {τ = writerTy} {d = 268} writer-found (behind t recordTy))
+  writer-read t q panel b o = look-in t 0 (sub t 4 {τ = writerTy} {d = writerAt} writer-found (behind t recordTy))
 
-  pub place-read : K → (q : Share) (panel : Record) (b o : ℕ) → Reads K W (‵ (recordAt q panel b o) ∷ Γ) (tyInt w32) b (o + 1268) (vint w32 (panel .place))
+  pub place-read : K → (q : Share) (panel : Record) (b o : ℕ) → Reads K W (‵ (recordAt q panel b o) ∷ Γ) (tyInt w32) b (o + placeAt) (vint w32 (panel .place))
   unfolding recordAt
-  place-read t q panel b o = look-in t 0 (sub t 7 {τ = tyInt w32} {d = 1268} place-found (behind t recordTy))
+  place-read t q panel b o = look-in t 0 (sub t 7 {τ = tyInt w32} {d = placeAt} place-found (behind t recordTy))
 
   pub reach-stored : K → (panel : Record) (b o x : ℕ) → T (hasTy (tyInt w32) (vint w32 x)) × WT (vint w32 x) → Writes K W (‵ (recordAt fullShare panel b o) ∷ Γ) (tyInt w32) b (o + 8) (vint w32 x) (‵ (recordAt fullShare (withReach panel x) b o) ∷ Γ)
   unfolding recordAt withReach
   reach-stored t panel b o x wt = store-in t 0 (sub t 2 {τ = tyInt w32} {d = 8} reach-found (behind t recordTy)) wt
 
-  pub writer-stored : K → (panel : Record) (b o : ℕ) (writer : Writer) → T (hasTy writerTy (writer-val writer)) × WT (writer-val writer) → Writes K W (‵ (recordAt fullShare panel b o) ∷ Γ) writerTy b (o + 268) (writer-val writer) (‵ (recordAt fullShare (withWriter panel (writer .work)) b o) ∷ Γ)
+  pub writer-stored : K → (panel : Record) (b o : ℕ) (writer : Writer) → T (hasTy writerTy (writer-val writer)) × WT (writer-val writer) → Writes K W (‵ (recordAt fullShare panel b o) ∷ Γ) writerTy b (o + writerAt) (writer-val writer) (‵ (recordAt fullShare (withWriter panel (writer .work)) b o) ∷ Γ)
   unfolding recordAt withWriter
-  writer-stored t panel b o writer wt = store-in t 0 (sub t 4 {τ = writerTy} {d = 268} writer-found (behind t recordTy)) wt
+  writer-stored t panel b o writer wt = store-in t 0 (sub t 4 {τ = writerTy} {d = writerAt} writer-found (behind t recordTy)) wt
 
-  pub place-stored : K → (panel : Record) (b o x : ℕ) → T (hasTy (tyInt w32) (vint w32 x)) × WT (vint w32 x) → Writes K W (‵ (recordAt fullShare panel b o) ∷ Γ) (tyInt w32) b (o + 1268) (vint w32 x) (‵ (recordAt fullShare (withPlace panel x) b o) ∷ Γ)
+  pub place-stored : K → (panel : Record) (b o x : ℕ) → T (hasTy (tyInt w32) (vint w32 x)) × WT (vint w32 x) → Writes K W (‵ (recordAt fullShare panel b o) ∷ Γ) (tyInt w32) b (o + placeAt) (vint w32 x) (‵ (recordAt fullShare (withPlace panel x) b o) ∷ Γ)
   unfolding recordAt withPlace
-  place-stored t panel b o x wt = store-in t 0 (sub t 7 {τ = tyInt w32} {d = 1268} place-found (behind t recordTy)) wt
+  place-stored t panel b o x wt = store-in t 0 (sub t 7 {τ = tyInt w32} {d = placeAt} place-found (behind t recordTy)) wt
 
 -- ---- the counts, taken out of a share of the record and put back
 module _ {M : Type 1} (𝓤 : URA M) (H : Heap 𝓤) (A : Atoms 𝓤) (s : Share) (panel : Record) (b o : ℕ) where
@@ -326,16 +344,16 @@ module _ (panel : Record) (is : Holds panel) where
   holds-with-place x l = all-hold (withPlace panel x) m-fits k-fits reach-fits counts-hold writer-holds readers-hold stations-hold l
 
   module _ {M : Type 1} {𝓤 : URA M} {H : Heap 𝓤} {A : Atoms 𝓤} {K : Type 0} {W : Given 𝓤 H A} {Γ : List (Item 𝓤)} where
-    pub reader-read : K → (b o k : ℕ) → k < 16 → Reads K W (‵ (recordAt fullShare panel b o) ∷ Γ) readerTy b (k * 20 + (o + 308)) (reader-val (getD (panel .readers) k idleReader))
-    reader-read t b o k l = element-read ReaderType.the-field ReaderLaws.the-field-laws 16 5 308 readerTy readers-found panel (panel .readers) refl readers-hold t fullShare b o k idleReader l
+    pub reader-read : K → (b o k : ℕ) → k < 16 → Reads K W (‵ (recordAt fullShare panel b o) ∷ Γ) readerTy b (k * readerSize + (o + readersAt)) (reader-val (getD (panel .readers) k idleReader))
+    reader-read t b o k l = element-read ReaderType.the-field ReaderLaws.the-field-laws 16 5 readersAt readerTy readers-found panel (panel .readers) refl readers-hold t fullShare b o k idleReader l
 
-    pub station-read : K → (b o k : ℕ) → k < 32 → Reads K W (‵ (recordAt fullShare panel b o) ∷ Γ) stationTy b (k * 20 + (o + 628)) (station-val (getD (panel .stations) k unheardStation))
-    station-read t b o k l = element-read StationType.the-field StationLaws.the-field-laws 32 6 628 stationTy stations-found panel (panel .stations) refl stations-hold t fullShare b o k unheardStation l
+    pub station-read : K → (b o k : ℕ) → k < 32 → Reads K W (‵ (recordAt fullShare panel b o) ∷ Γ) stationTy b (k * stationSize + (o + stationsAt)) (station-val (getD (panel .stations) k unheardStation))
+    station-read t b o k l = element-read StationType.the-field StationLaws.the-field-laws 32 6 stationsAt stationTy stations-found panel (panel .stations) refl stations-hold t fullShare b o k unheardStation l
 
     pub station-stored : K → (b o k : ℕ) → k < 32 → (y : Station) → T (hasTy stationTy (station-val y)) × WT (station-val y)
-        → Writes K W (‵ (recordAt fullShare panel b o) ∷ Γ) stationTy b (k * 20 + (o + 628)) (station-val y) (‵ (recordAt fullShare (withStations panel (set (panel .stations) k y)) b o) ∷ Γ)
+        → Writes K W (‵ (recordAt fullShare panel b o) ∷ Γ) stationTy b (k * stationSize + (o + stationsAt)) (station-val y) (‵ (recordAt fullShare (withStations panel (set (panel .stations) k y)) b o) ∷ Γ)
     unfolding withStations
-    station-stored t b o k l y wt = element-stored StationType.the-field StationLaws.the-field-laws 32 6 628 stationTy stations-found panel (panel .stations) refl stations-hold t b o k unheardStation l y (withStations panel (set (panel .stations) k y)) refl wt
+    station-stored t b o k l y wt = element-stored StationType.the-field StationLaws.the-field-laws 32 6 stationsAt stationTy stations-found panel (panel .stations) refl stations-hold t b o k unheardStation l y (withStations panel (set (panel .stations) k y)) refl wt
 
     pub count-stored : K → (b o k : ℕ) → k < 64 → (x : ℕ) → T (hasTy (tyInt w32) (vint w32 x)) × WT (vint w32 x)
         → Writes K W (‵ (recordAt fullShare panel b o) ∷ Γ) (tyInt w32) b (k * 4 + (o + 12)) (vint w32 x) (‵ (recordAt fullShare (withCounts panel (set (panel .counts) k x)) b o) ∷ Γ)
@@ -343,9 +361,9 @@ module _ (panel : Record) (is : Holds panel) where
     count-stored t b o k l x wt = element-stored u32-field LL.u32-laws 64 3 12 (tyInt w32) counts-found panel (panel .counts) refl counts-hold t b o k 0 l x (withCounts panel (set (panel .counts) k x)) refl wt
 
     pub reader-stored : K → (b o k : ℕ) → k < 16 → (y : Reader) → T (hasTy readerTy (reader-val y)) × WT (reader-val y)
-        → Writes K W (‵ (recordAt fullShare panel b o) ∷ Γ) readerTy b (k * 20 + (o + 308)) (reader-val y) (‵ (recordAt fullShare (withReaders panel (set (panel .readers) k y)) b o) ∷ Γ)
+        → Writes K W (‵ (recordAt fullShare panel b o) ∷ Γ) readerTy b (k * readerSize + (o + readersAt)) (reader-val y) (‵ (recordAt fullShare (withReaders panel (set (panel .readers) k y)) b o) ∷ Γ)
     unfolding withReaders
-    reader-stored t b o k l y wt = element-stored ReaderType.the-field ReaderLaws.the-field-laws 16 5 308 readerTy readers-found panel (panel .readers) refl readers-hold t b o k idleReader l y (withReaders panel (set (panel .readers) k y)) refl wt
+    reader-stored t b o k l y wt = element-stored ReaderType.the-field ReaderLaws.the-field-laws 16 5 readersAt readerTy readers-found panel (panel .readers) refl readers-hold t b o k idleReader l y (withReaders panel (set (panel .readers) k y)) refl wt
 
 module _ {M : Type 1} (𝓤 : URA M) (H : Heap 𝓤) (A : Atoms 𝓤) (W : Given 𝓤 H A) where
   pub writer-typed : (y : Writer) → WriterHolds y → T (hasTy writerTy (writer-val y)) × WT (writer-val y)

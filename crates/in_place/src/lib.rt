@@ -64,7 +64,15 @@ pub fn step_reader(panel: &mut Record, slots: &[u64], reader: u32) -> StepAnswer
     let fits = fits_at(panel, slots.len());
     let at = reader_place(reader);
     let found = panel.readers[at];
-    let next = step_work(fits, reader, found, panel.m, panel.reach, slots);
+    let next = step_work(
+        fits,
+        reader,
+        found,
+        panel.m,
+        panel.k,
+        panel.reach,
+        slots,
+    );
     panel.readers[at] = next.reader;
     next.answer
 }
@@ -163,7 +171,15 @@ fn readers_turn(panel: &mut Record, slots: &[u64], due: u32) -> TurnAnswer
 {
     let at = numbered_place(due, 16);
     let found = panel.readers[at];
-    let next = step_work(due < 18, at as u32, found, panel.m, panel.reach, slots);
+    let next = step_work(
+        due < 18,
+        at as u32,
+        found,
+        panel.m,
+        panel.k,
+        panel.reach,
+        slots,
+    );
     panel.readers[at] = next.reader;
     panel.place = place_after(panel.place, due);
     turn_answer(due, next.answer)

@@ -71,7 +71,7 @@ use Rattle.in_place.proofs.Frame.{spread, gather, free-rooms}
 use Rattle.in_place.proofs.Locals.{allocate}
 use Rattle.in_place.proofs.Params.{slots, tys, args, Related, well-typed}
 use Rattle.in_place.proofs.PartWalk.{panelTy, slotsTy, params}
-use Rattle.in_place.proofs.RecordFields.{row, Holds, readerTy, reader-val, m-place, reach-place, readers-place, place-place, m-read, reach-read, place-read, place-stored, reader-read, reader-stored, m-fits, reach-fits, place-fits, reader-holds, reader-typed, reader-inside, holds-with-reader, holds-with-place, opens-panel, closes-panel}
+use Rattle.in_place.proofs.RecordFields.{row, Holds, readerTy, reader-val, m-place, k-place, reach-place, readers-place, place-place, m-read, k-read, reach-read, place-read, place-stored, reader-read, reader-stored, m-fits, k-fits, reach-fits, place-fits, reader-holds, reader-typed, reader-inside, holds-with-reader, holds-with-place, opens-panel, closes-panel}
 use Rattle.in_place.proofs.Results.{step-result, turn-result}
 use Rattle.in_place.proofs.Steps.{span, of-local, hears, had, nothings}
 use Rattle.in_place.proofs.Taken.{Entry, Exit, ends, in-place}
@@ -89,11 +89,11 @@ Next = Stepped.the-row .Denot
 
 -- the locals: the answer, the parameters, at, found, next, and those that the accesses and the calls need
 abbrev τs : List Ty
-τs = turn-result .ty ∷ panelTy ∷ slotsTy ∷ tyInt w32 ∷ tyInt w64 ∷ readerTy ∷ layout (shape Stepped.the-type) ∷ tyInt w64 ∷ tyPtr ∷ tyPtr ∷ readerTy ∷ tyBool ∷ tyInt w32 ∷ tyInt w32 ∷ tyInt w32 ∷ tyPtr ∷ tyPtr ∷ []
+τs = turn-result .ty ∷ panelTy ∷ slotsTy ∷ tyInt w32 ∷ tyInt w64 ∷ readerTy ∷ layout (shape Stepped.the-type) ∷ tyInt w64 ∷ tyPtr ∷ tyPtr ∷ readerTy ∷ tyBool ∷ tyInt w32 ∷ tyInt w32 ∷ tyInt w32 ∷ tyInt w32 ∷ tyPtr ∷ tyPtr ∷ []
 
 -- the step's plain parameters
 abbrev Plain : List RattleType
-Plain = bool ∷ u32 ∷ Reader.the-row ∷ u32 ∷ u32 ∷ []
+Plain = bool ∷ u32 ∷ Reader.the-row ∷ u32 ∷ u32 ∷ u32 ∷ []
 
 small : (k : ℕ) → k < 16 → k < 2 ^ 32
 small k l = omega arith
@@ -117,7 +117,7 @@ module _ (h : Record) (at : ℕ) (next : Next) where
     unfolding afterStep withWork withReaders withPlace
     all-stored answer placed-is answer-is = λ j. outcome (withPlace h₁ (placed-is j)) before (answer-is j)
 
-    so : (answer : Answer) → at ≡ numberedPlace 16 due → paperStepped next ≡ stepWork (ltb due 18) at (h .m) (h .reach) (found h at .work) before → placed ≡ placeAfter (h₁ .place) due → answer ≡ turnAnswer due (paperStep (next .answer)) → outcome (after placed) before answer ≡ readerTurn due h before
+    so : (answer : Answer) → at ≡ numberedPlace 16 due → paperStepped next ≡ stepWork (ltb due 18) at (h .m) (h .k) (h .reach) (found h at .work) before → placed ≡ placeAfter (h₁ .place) due → answer ≡ turnAnswer due (paperStep (next .answer)) → outcome (after placed) before answer ≡ readerTurn due h before
     unfolding readerTurn workOf withPlace
     so answer at-is next-is placed-is answer-is =
         all-stored answer placed-is answer-is
@@ -131,8 +131,8 @@ module _ {M : Type 1} (𝓤 : URA M) (H : Heap 𝓤) (A : Atoms 𝓤) (W : Given
   walk are =
       qed W (Entry row N tt (params 1) 𝓤 H A (self.clauses 𝓤 H A mem run) κs qs x a tt ∷ []) ∵ split ! $ split ! $ split ! $ move ! (2 ∷ []) $ fsplit ! $ fsplit3 ! $ drop ! $ move ! (0 ∷ 1 ∷ 3 ∷ []) $
       enter ! (𝓣 .C) (𝓣 .Λ) code.function (vptr b o ∷ args κs (params 1) a) _ $ allocate ! τs [] _ (λ bs. alloc0 ! $ spread ! τs bs $ params1 ! $ pass1 ! (init ! 2 refl (tt, tt)) $ pass1 ! (init ! 4 refl (ok .0)) $ pass1 ! (init ! 6 refl (ok .1 .0)) $ pass0 ! $
-      move ! (34 ∷ 35 ∷ 36 ∷ []) $ opens-panel ! tt h b o (λ is-h.
-      -- [the record; what closes it at 1 to 3; local i at 2i + 4; what the slots own at 38; their token]
+      move ! (36 ∷ 37 ∷ 38 ∷ []) $ opens-panel ! tt h b o (λ is-h.
+      -- [the record; what closes it at 1 to 3; local i at 2i + 4; what the slots own at 40; their token]
       calls-plain ! fm (u32 ∷ u32 ∷ []) (uint-makes 𝓤 H A W w32, (uint-makes 𝓤 H A W w32, tt)) (due, (16, tt)) (vint w32 due ∷ [], (vint w32 16 ∷ [], tt)) ((refl, due-fits), ((refl, lit< tt), tt)) usize (vint w64) (uint-tells w64) (λ r. place.spec 𝓤 H A mem run tt (due, (16, tt)) .ensures tt r)
       (met-place ((tt, tt, tt, (due, (16, tt)), (vint w32 due ∷ [], (vint w32 16 ∷ [], tt))), tt)) (and-then ! (of-local ! 11 refl) (and-then ! (lit ! tt) (no-more !))) (λ at is-at.
       hears ! (lastsOf tt (place.signature .params) (place.ended .kept) (due, (16, tt))) (λ _. at ≡ numberedPlace 16 due) (λ _ at-is. drop ! $ land ! (from ! (stop !)) (init ! 12 refl (tt, record { fits = is-at .1 })) $
@@ -142,35 +142,36 @@ module _ {M : Type 1} (𝓤 : URA M) (H : Heap 𝓤) (A : Atoms 𝓤) (W : Given
       assigns ! (bin ! (of-local ! 20 refl) (of-local ! 18 refl) tt) (from ! (stop !)) (init ! 22 refl (tt, tt)) $
       assigns ! (of-opd ! (load ! (from ! (hop ! (look ! 22 refl) (stop !))) (reader-read h is-h ! b o at (inside at at-is)))) (from ! (stop !)) (init ! 24 refl (found-typed is-h at (inside at at-is))) $
       assigns ! (of-opd ! (of-local ! 24 refl)) (from ! (stop !)) (init ! 14 refl (found-typed is-h at (inside at at-is))) $
-      -- whether the record fits, the reader's number, m and the reach
+      -- whether the record fits, the reader's number, m, k and the reach
       assigns ! (bin ! (of-local ! 10 refl) (lit ! tt) tt) (from ! (stop !)) (init ! 26 refl (tt, tt)) $
       assigns ! (un ! (of-local ! 12 refl) (record { fits = small at (inside at at-is) })) (from ! (stop !)) (init ! 28 refl (tt, record { fits = small at (inside at at-is) })) $
       assigns ! (of-opd ! (load ! (from ! (hop ! (look ! 6 refl) (m-place !))) (m-read ! fullShare h b o))) (from ! (stop !)) (init ! 30 refl (tt, record { fits = m-fits h is-h })) $
-      assigns ! (of-opd ! (load ! (from ! (hop ! (look ! 6 refl) (reach-place !))) (reach-read ! fullShare h b o))) (from ! (stop !)) (init ! 32 refl (tt, record { fits = reach-fits h is-h })) $
+      assigns ! (of-opd ! (load ! (from ! (hop ! (look ! 6 refl) (k-place !))) (k-read ! fullShare h b o))) (from ! (stop !)) (init ! 32 refl (tt, record { fits = k-fits h is-h })) $
+      assigns ! (of-opd ! (load ! (from ! (hop ! (look ! 6 refl) (reach-place !))) (reach-read ! fullShare h b o))) (from ! (stop !)) (init ! 34 refl (tt, record { fits = reach-fits h is-h })) $
       -- the step
-      move ! (38 ∷ []) $ fsplit ! $ move ! (1 ∷ []) $ drop ! $ nothing ! $ move ! (1 ∷ 0 ∷ []) $ fjoin ! $ move ! (0 ∷ 39 ∷ []) $
-      calls-with ! fm (toks 𝓤 A 1 (κs .1) (qs .1)) Plain (ShrSlice (named 1) (κs .1 .0) u64 ∷ []) (bool-makes 𝓤 H A W, (uint-makes 𝓤 H A W w32, (LL.makes Reader.the-type Reader′.the-plain 𝓤 H A, (uint-makes 𝓤 H A W w32, (uint-makes 𝓤 H A W w32, tt)))))
-      (plain at) (plain-vals at) (refl, ((refl, small at (inside at at-is)), (reader-holds h is-h at (inside at at-is), ((refl, m-fits h is-h), ((refl, reach-fits h is-h), tt))))) (a .0, tt) (sliceVal (a .0 .ptr) (length before) ∷ [], tt)
+      move ! (40 ∷ []) $ fsplit ! $ move ! (1 ∷ []) $ drop ! $ nothing ! $ move ! (1 ∷ 0 ∷ []) $ fjoin ! $ move ! (0 ∷ 41 ∷ []) $
+      calls-with ! fm (toks 𝓤 A 1 (κs .1) (qs .1)) Plain (ShrSlice (named 1) (κs .1 .0) u64 ∷ []) (bool-makes 𝓤 H A W, (uint-makes 𝓤 H A W w32, (LL.makes Reader.the-type Reader′.the-plain 𝓤 H A, (uint-makes 𝓤 H A W w32, (uint-makes 𝓤 H A W w32, (uint-makes 𝓤 H A W w32, tt))))))
+      (plain at) (plain-vals at) (refl, ((refl, small at (inside at at-is)), (reader-holds h is-h at (inside at at-is), ((refl, m-fits h is-h), ((refl, k-fits h is-h), ((refl, reach-fits h is-h), tt)))))) (a .0, tt) (sliceVal (a .0 .ptr) (length before) ∷ [], tt)
       Stepped.the-row (LL.val Stepped.the-type Stepped′.the-laws) (LL.tells Stepped.the-type Stepped′.the-laws) (λ r. step.spec 𝓤 H A mem run (κs .1) (asked at) .ensures tt r) (met-step ((κs .1, qs .1, tt, asked at, asked-vals at), tt))
-      (and-then ! (of-local ! 27 refl) (and-then ! (of-local ! 29 refl) (and-then ! (of-local ! 15 refl) (and-then ! (of-local ! 31 refl) (and-then ! (of-local ! 33 refl) (and-then ! (of-local ! 9 refl) (no-more !))))))) (λ next is-next.
-      hears ! (lastsOf (κs .1) (step.signature .params) (step.ended .kept) (asked at)) (λ _. paperStepped next ≡ stepWork (ltb due 18) at (h .m) (h .reach) (found h at .work) before) (λ _ next-is. drop ! $ move ! (1 ∷ []) $
+      (and-then ! (of-local ! 27 refl) (and-then ! (of-local ! 29 refl) (and-then ! (of-local ! 15 refl) (and-then ! (of-local ! 31 refl) (and-then ! (of-local ! 33 refl) (and-then ! (of-local ! 35 refl) (and-then ! (of-local ! 9 refl) (no-more !)))))))) (λ next is-next.
+      hears ! (lastsOf (κs .1) (step.signature .params) (step.ended .kept) (asked at)) (λ _. paperStepped next ≡ stepWork (ltb due 18) at (h .m) (h .k) (h .reach) (found h at .work) before) (λ _ next-is. drop ! $ move ! (1 ∷ []) $
       -- [the record; the token; what closes the record at 2 to 4; local i at 2i + 5]
       land ! (from ! (stop !)) (init ! 17 refl (LL.lawful Stepped.the-type Stepped′.the-laws 𝓤 H A W .typed next _ is-next .0)) $
       -- what it hands back is stored: the reader, and then the place
       assigns ! (bin ! (of-local ! 13 refl) (lit ! tt) (record { fits = reader-inside at (inside at at-is) })) (from ! (stop !)) (store ! 19 refl (tt, record { fits = reader-inside at (inside at at-is) })) $
-      assigns ! (addr ! (from ! (hop ! (look ! 7 refl) (readers-place !)))) (from ! (stop !)) (init ! 35 refl (tt, tt)) $
-      assigns ! (bin ! (of-local ! 35 refl) (of-local ! 19 refl) tt) (from ! (stop !)) (init ! 37 refl (tt, tt)) $
-      assigns ! (of-opd ! (load ! (from ! (fld ! {τ = readerTy} {d = 0} refl (stop !))) (look-in ! 17 (sub ! 0 {τ = readerTy} {d = 0} refl (whole !))))) (from ! (hop ! (look ! 37 refl) (stop !))) (reader-stored h is-h ! b o at (inside at at-is) (next .reader) (reader-typed 𝓤 H A W (next .reader) (reader-is next is-next))) $
+      assigns ! (addr ! (from ! (hop ! (look ! 7 refl) (readers-place !)))) (from ! (stop !)) (init ! 37 refl (tt, tt)) $
+      assigns ! (bin ! (of-local ! 37 refl) (of-local ! 19 refl) tt) (from ! (stop !)) (init ! 39 refl (tt, tt)) $
+      assigns ! (of-opd ! (load ! (from ! (fld ! {τ = readerTy} {d = 0} refl (stop !))) (look-in ! 17 (sub ! 0 {τ = readerTy} {d = 0} refl (whole !))))) (from ! (hop ! (look ! 39 refl) (stop !))) (reader-stored h is-h ! b o at (inside at at-is) (next .reader) (reader-typed 𝓤 H A W (next .reader) (reader-is next is-next))) $
       assigns ! (of-opd ! (load ! (from ! (hop ! (look ! 7 refl) (place-place !))) (place-read ! fullShare (h₁ h at next) b o))) (from ! (stop !)) (store ! 29 refl (tt, record { fits = place-fits (h₁ h at next) (holds₁ is-h at next is-next) })) $
       calls-plain ! fm (u32 ∷ u32 ∷ []) (uint-makes 𝓤 H A W w32, (uint-makes 𝓤 H A W w32, tt)) (h₁ h at next .place, (due, tt)) (vint w32 (h₁ h at next .place) ∷ [], (vint w32 due ∷ [], tt)) ((refl, place-fits (h₁ h at next) (holds₁ is-h at next is-next)), ((refl, due-fits), tt)) u32 (vint w32) (uint-tells w32)
       (λ r. next-place.spec 𝓤 H A mem run tt (h₁ h at next .place, (due, tt)) .ensures tt r) (met-next ((tt, tt, tt, (h₁ h at next .place, (due, tt)), (vint w32 (h₁ h at next .place) ∷ [], (vint w32 due ∷ [], tt))), tt)) (and-then ! (of-local ! 30 refl) (and-then ! (of-local ! 12 refl) (no-more !))) (λ placed is-placed.
-      hears ! (lastsOf tt (next-place.signature .params) (next-place.ended .kept) (h₁ h at next .place, (due, tt))) (λ _. placed ≡ placeAfter (h₁ h at next .place) due) (λ _ placed-is. drop ! $ land ! (from ! (stop !)) (store ! 33 refl (tt, record { fits = is-placed .1 })) $
-      assigns ! (of-opd ! (of-local ! 33 refl)) (from ! (hop ! (look ! 7 refl) (place-place !))) (place-stored ! (h₁ h at next) b o placed (tt, record { fits = is-placed .1 })) $
+      hears ! (lastsOf tt (next-place.signature .params) (next-place.ended .kept) (h₁ h at next .place, (due, tt))) (λ _. placed ≡ placeAfter (h₁ h at next .place) due) (λ _ placed-is. drop ! $ land ! (from ! (stop !)) (store ! 35 refl (tt, record { fits = is-placed .1 })) $
+      assigns ! (of-opd ! (of-local ! 35 refl)) (from ! (hop ! (look ! 7 refl) (place-place !))) (place-stored ! (h₁ h at next) b o placed (tt, record { fits = is-placed .1 })) $
       answers-turn W mem run 𝓣 met-answer due due-fits (next .answer) (answer-is next is-next) (and-then ! (of-local ! 12 refl) (and-then ! (load ! (from ! (fld ! {τ = step-result .ty} {d = 24} refl (stop !))) (look-in ! 18 (sub ! 1 {τ = step-result .ty} {d = 24} refl (whole !)))) (no-more !))) (λ t is-t t-is.
       land ! (from ! (stop !)) (init ! 5 refl (turn-result .typed 𝓤 H A W t is-t .0)) $
       move ! (0 ∷ 2 ∷ 3 ∷ 4 ∷ []) $ closes-panel ! tt (after h at next placed) b o (holds-with-place (h₁ h at next) (holds₁ is-h at next is-next) placed (is-placed .1)) $
       -- [what the reference owns at 0 and 1; its token; the slots' token; local i at 2i + 4]
-      returns ! (look ! 4 refl) $ move ! (span 4 34) $ gather ! τs bs (some _ ∷ some _ ∷ some _ ∷ some _ ∷ some _ ∷ some _ ∷ some _ ∷ some _ ∷ some _ ∷ some _ ∷ some _ ∷ some _ ∷ some _ ∷ some _ ∷ some _ ∷ some _ ∷ some _ ∷ []) $ free-rooms ! τs bs [] $ free0 ! $
+      returns ! (look ! 4 refl) $ move ! (span 4 36) $ gather ! τs bs (some _ ∷ some _ ∷ some _ ∷ some _ ∷ some _ ∷ some _ ∷ some _ ∷ some _ ∷ some _ ∷ some _ ∷ some _ ∷ some _ ∷ some _ ∷ some _ ∷ some _ ∷ some _ ∷ some _ ∷ some _ ∷ []) $ free-rooms ! τs bs [] $ free0 ! $
       keep ! (0 ∷ 2 ∷ 3 ∷ []) $ use0 W (‵ (nothings 2)) (had 𝓤 H A 2) $ use0 W (raw (emp 𝓤)) (id⊢ 𝓤 _) $ move ! (2 ∷ 3 ∷ 4 ∷ 0 ∷ 1 ∷ []) $
       by ! (ends row N tt (params 1) 𝓤 H A (self.clauses 𝓤 H A mem run) κs qs x a tt W (turn-result .makes 𝓤 H A W) t _ is-t (after h at next placed) (tt, (tt, tt)) (emp 𝓤) (factI 𝓤 _ (emp 𝓤) (so h at next placed due before (paperTurn t) at-is next-is placed-is t-is))))))))))))
     where
@@ -206,16 +207,16 @@ module _ {M : Type 1} (𝓤 : URA M) (H : Heap 𝓤) (A : Atoms 𝓤) (W : Given
 
       -- what the step is handed, and its machine values
       plain : ℕ → Denots Plain
-      plain at = (ltb due 18, (at, (found h at, (h .m, (h .reach, tt)))))
+      plain at = (ltb due 18, (at, (found h at, (h .m, (h .k, (h .reach, tt))))))
 
       plain-vals : ℕ → Valss Plain
-      plain-vals at = (vbool (ltb due 18) ∷ [], (vint w32 at ∷ [], (reader-val (found h at) ∷ [], (vint w32 (h .m) ∷ [], (vint w32 (h .reach) ∷ [], tt)))))
+      plain-vals at = (vbool (ltb due 18) ∷ [], (vint w32 at ∷ [], (reader-val (found h at) ∷ [], (vint w32 (h .m) ∷ [], (vint w32 (h .k) ∷ [], (vint w32 (h .reach) ∷ [], tt))))))
 
       asked : ℕ → Denots (typesAt (step.signature .params) (κs .1))
-      asked at = (ltb due 18, (at, (found h at, (h .m, (h .reach, (a .0, tt))))))
+      asked at = (ltb due 18, (at, (found h at, (h .m, (h .k, (h .reach, (a .0, tt)))))))
 
       asked-vals : ℕ → Valss (typesAt (step.signature .params) (κs .1))
-      asked-vals at = (vbool (ltb due 18) ∷ [], (vint w32 at ∷ [], (reader-val (found h at) ∷ [], (vint w32 (h .m) ∷ [], (vint w32 (h .reach) ∷ [], (sliceVal (a .0 .ptr) (length before) ∷ [], tt))))))
+      asked-vals at = (vbool (ltb due 18) ∷ [], (vint w32 at ∷ [], (reader-val (found h at) ∷ [], (vint w32 (h .m) ∷ [], (vint w32 (h .k) ∷ [], (vint w32 (h .reach) ∷ [], (sliceVal (a .0 .ptr) (length before) ∷ [], tt)))))))
 
       -- what is known of what it hands back
       Handed : Next → Type 0

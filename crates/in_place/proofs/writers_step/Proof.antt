@@ -169,7 +169,7 @@ module _ {M : Type 1} (𝓤 : URA M) (H : Heap 𝓤) (A : Atoms 𝓤) (W : Given
       -- [the record; what is said of the last slots; the tokens; what closes the record at 3 to 5; local i at 2i + 6]
       land ! (from ! (stop !)) (init ! 20 refl (LL.lawful Stepped.the-type Stepped′.the-laws 𝓤 H A W .typed next _ is-next .0)) $
       -- what it hands back is stored: the reach, a count, a station, the writer
-      assigns ! (of-opd ! (load ! (from ! (fld ! {τ = tyInt w32} {d = 40} refl (stop !))) (look-in ! 20 (sub ! 1 {τ = tyInt w32} {d = 40} refl (whole !))))) (from ! (hop ! (look ! 8 refl) (reach-place !))) (reach-stored ! h b o (next .reach) (tt, record { fits = reach-is next is-next .1 })) $
+      assigns ! (of-opd ! (load ! (from ! (fld ! {τ = tyInt w32} {d = 44} refl (stop !))) (look-in ! 20 (sub ! 1 {τ = tyInt w32} {d = 44} refl (whole !))))) (from ! (hop ! (look ! 8 refl) (reach-place !))) (reach-stored ! h b o (next .reach) (tt, record { fits = reach-is next is-next .1 })) $
       assigns ! (bin ! (load ! (from ! (fld ! {τ = tyInt w64} {d = 48} refl (stop !))) (look-in ! 20 (sub ! 2 {τ = tyInt w64} {d = 48} refl (whole !)))) (lit ! tt) (record { fits = count-inside (next .at) (counted fit at next (ws .1 .1 .1 .1 .1 .1 .1 .0) next-is) })) (from ! (stop !)) (store ! 22 refl (tt, record { fits = count-inside (next .at) (counted fit at next (ws .1 .1 .1 .1 .1 .1 .1 .0) next-is) })) $
       assigns ! (addr ! (from ! (hop ! (look ! 8 refl) (counts-place !)))) (from ! (stop !)) (init ! 42 refl (tt, tt)) $
       assigns ! (bin ! (of-local ! 42 refl) (of-local ! 22 refl) tt) (from ! (stop !)) (init ! 44 refl (tt, tt)) $

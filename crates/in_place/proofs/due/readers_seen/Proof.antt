@@ -32,7 +32,7 @@ use Rattle.in_place.proofs.Calls.{called}
 use Rattle.in_place.proofs.Folded.{folded, walk}
 use Rattle.in_place.proofs.Looked.{looked}
 use Rattle.in_place.proofs.Params.{Param, number, well-typed}
-use Rattle.in_place.proofs.RecordFields.{readerTy, reader-val, readers-found, readers-hold, reader-typed, reader-inside}
+use Rattle.in_place.proofs.RecordFields.{readerTy, reader-val, readers-found, readers-hold, reader-typed, reader-inside, readersAt}
 use Rattle.in_place.proofs.Results.{seen}
 use Rattle.in_place.proofs.Steps.{had}
 use Rattle.in_place.proofs.Tested.{joined, tested}
@@ -79,7 +79,7 @@ pub readers-seen-spec : {M : Type 1} → statement M
 unfolding code.routine tablesOf
 readers-seen-spec 𝓤 H 𝓜 𝓖 𝓡 =
     looked seen ps 𝓤 H 𝓜 𝓖 𝓡 (self.clauses 𝓤 H (𝓖 .A) (𝓜 .mem) (𝓡 .run)) code.env #self code.function (code.unfolded 𝓤 H 𝓜 𝓡) (λ κs qs x a γ are.
-    walk Reader.the-field Reader′.the-field-laws 16 5 308 readerTy readers-found idleReader (λ panel. panel .readers) readers-hold (λ panel. refl) tt tt reader-inside 8 refl seen ps #step none-seen (LL.owes Seen.the-type Seen′.the-laws none-seen (refl, ((refl, lit< tt), tt))) (aggregate (opdTrue ∷ int w32 0 ∷ []))
+    walk Reader.the-field Reader′.the-field-laws 16 5 readersAt readerTy readers-found idleReader (λ panel. panel .readers) readers-hold (λ panel. refl) tt tt reader-inside 8 refl seen ps #step none-seen (LL.owes Seen.the-type Seen′.the-laws none-seen (refl, ((refl, lit< tt), tt))) (aggregate (opdTrue ∷ int w32 0 ∷ []))
     𝓤 H (𝓖 .A) (givenOf 𝓤 H 𝓜 𝓖) (tablesOf 𝓤 H 𝓜 (tables 𝓤 H 𝓜 𝓡 code.env)) (self.clauses 𝓤 H (𝓖 .A) (𝓜 .mem) (𝓡 .run)) κs qs x a γ (well-typed κs 𝓤 H (𝓖 .A) (givenOf 𝓤 H 𝓜 𝓖) ps a are) (λ Γ E. agg ! (and-then ! (true-lit !) (and-then ! (lit ! tt) (no-more !))))
     (with-one (a .0) (a .1 .0)) (reader-typed 𝓤 H (𝓖 .A) (givenOf 𝓤 H 𝓜 𝓖))
     (λ before is-before y is-y. called 𝓤 H (𝓖 .A) (givenOf 𝓤 H 𝓜 𝓖) _ (fmOf 𝓤 H (givenOf 𝓤 H 𝓜 𝓖 .laws) (tablesOf 𝓤 H 𝓜 (tables 𝓤 H 𝓜 𝓡 code.env))) #step (Seen.the-row ∷ Reader.the-row ∷ u32 ∷ u32 ∷ [])

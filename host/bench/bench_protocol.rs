@@ -1,7 +1,8 @@
-//! The bench of document 01 over any table of points: commands in, their answers out.
+//! The bench of documents 01 and 02 over any table of points: commands in, their answers out.
 
 use crate::bench_line::{read_command, read_sizes, Command};
 use crate::point_table::PointTable;
+use crate::reference_table::{Ended, Ending};
 use std::io::{BufRead, Result, Write};
 
 /// Runs the input to its end, and gives the table as it is then; none if line 1 made none.
@@ -59,28 +60,38 @@ fn next_line(input: &mut impl BufRead, line: &mut Vec<u8>) -> Result<bool> {
 /// Carries the command out and adds its line.
 fn answer(table: &mut impl PointTable, command: Command, printed: &mut Vec<u8>) {
     let (letter, answer) = match command {
-        Command::Put { point, value } => {
-            let place = table.put(point, value);
-            (b'P', place.map(|place| (place.slot, Some(place.index))))
-        }
-        Command::Lookup { point } => (b'L', table.lookup(point).map(|value| (value, None))),
-        Command::Removal { point } => (b'R', table.remove(point).map(|reach| (reach, None))),
+        Command::Put { point, value } => (b'P', table.put(point, value)),
+        Command::Lookup { point } => (b'L', table.lookup(point)),
+        Command::Removal { point } => (b'R', table.remove(point)),
     };
     printed.push(letter);
     push_number(printed, command.point());
     match answer {
-        Ok((number, index)) => {
-            push_number(printed, number);
-            if let Some(index) = index {
-                push_number(printed, index);
-            }
-        }
-        Err(refusal) => {
-            printed.extend_from_slice(b" !");
-            push_number(printed, refusal as u32);
-        }
+        Ok(ended) => push_ended(printed, ended),
+        Err(refusal) => push_refusal(printed, refusal as u32),
     }
     printed.push(b'\n');
+}
+
+/// The steps go last. A refused start has none.
+fn push_ended(printed: &mut Vec<u8>, Ended { ending, steps }: Ended) {
+    match ending {
+        Ending::Put { slot, index } => {
+            push_number(printed, slot);
+            push_number(printed, index);
+        }
+        Ending::Found(number) | Ending::Changed(number) | Ending::Removed(number) => {
+            push_number(printed, number);
+        }
+        Ending::NoPerch => push_refusal(printed, 6),
+        Ending::Unknown => push_refusal(printed, 7),
+    }
+    push_number(printed, steps);
+}
+
+fn push_refusal(printed: &mut Vec<u8>, number: u32) {
+    printed.extend_from_slice(b" !");
+    push_number(printed, number);
 }
 
 /// A space and the number. The digits are made here because `write!` would take longer than the

@@ -1,12 +1,12 @@
-//! The digest of the long histories of `drawn_histories`: every number of the answers, the slots and the record, in two
-//! checksums.
+//! The digest of the long histories of `drawn_histories`: every number of the answers, the slots and
+//! the record, in two checksums.
 
 use crate::reference_calls::Answer;
 use crate::reference_command::Entry;
 use crate::reference_record::{
     Alteration, ChangeStage, Place, PutStage, Reader, Record, RemovalStage, Search, Station, Writer,
 };
-use crate::reference_table::{point_of, value_of, Step};
+use crate::reference_table::{point_of, value_of, Ended, Ending, Step};
 use crate::reference_turn::Served;
 use crate::reference_writer::WriterStep;
 
@@ -54,7 +54,9 @@ impl Digest {
 fn answer_numbers(answer: Answer) -> Vec<u32> {
     match answer {
         Answer::Start(Ok(())) | Answer::Entry(Ok(Entry::Started)) => vec![15],
-        Answer::Entry(Ok(Entry::GivenAgain(stored))) => [vec![16], kept_numbers(stored)].concat(),
+        Answer::Entry(Ok(Entry::GivenAgain { answer, steps })) => {
+            [vec![16], kept_numbers(answer), vec![steps]].concat()
+        }
         Answer::Reader(Ok(step)) => reader_step_numbers(step),
         Answer::Writer(Ok(step)) => writer_step_numbers(step),
         Answer::Turn(Ok(served)) => turn_numbers(served),
@@ -79,8 +81,7 @@ fn turn_numbers(served: Served) -> Vec<u32> {
 fn reader_step_numbers(step: Step) -> Vec<u32> {
     match step {
         Step::Underway => vec![17],
-        Step::Found(value) => vec![18, value],
-        Step::Unknown => vec![23],
+        Step::Ended(ended) => ended_numbers(ended),
         Step::Word(word) => vec![24, point_of(word), value_of(word)],
         Step::LastWord(word) => vec![25, point_of(word), value_of(word)],
     }
@@ -89,12 +90,21 @@ fn reader_step_numbers(step: Step) -> Vec<u32> {
 fn writer_step_numbers(step: WriterStep) -> Vec<u32> {
     match step {
         WriterStep::Underway => vec![17],
-        WriterStep::Put { slot, index } => vec![19, slot, index],
-        WriterStep::Changed(value) => vec![20, value],
-        WriterStep::Removed(reach) => vec![21, reach],
-        WriterStep::NoPerch => vec![22],
-        WriterStep::Unknown => vec![23],
+        WriterStep::Ended(ended) => ended_numbers(ended),
     }
+}
+
+/// The steps go last.
+fn ended_numbers(Ended { ending, steps }: Ended) -> Vec<u32> {
+    let ending = match ending {
+        Ending::Found(value) => vec![18, value],
+        Ending::Put { slot, index } => vec![19, slot, index],
+        Ending::Changed(value) => vec![20, value],
+        Ending::Removed(reach) => vec![21, reach],
+        Ending::NoPerch => vec![22],
+        Ending::Unknown => vec![23],
+    };
+    [ending, vec![steps]].concat()
 }
 
 /// A command's answer.
@@ -113,7 +123,11 @@ fn station_numbers(last: Station) -> Vec<u32> {
 fn reader_numbers(work: Reader) -> Vec<u32> {
     match work {
         Reader::Idle => vec![0],
-        Reader::LookingUp { point, search } => [vec![1, point], search_numbers(search)].concat(),
+        Reader::LookingUp {
+            point,
+            search,
+            steps,
+        } => [vec![1, point], search_numbers(search), vec![steps]].concat(),
         Reader::Walking { next } => vec![2, next],
     }
 }
@@ -132,18 +146,22 @@ fn writer_numbers(work: Writer) -> Vec<u32> {
             point,
             value,
             stage,
-        } => [vec![1, point, value], put_stage_numbers(stage)].concat(),
+            steps,
+        } => [vec![1, point, value], put_stage_numbers(stage), vec![steps]].concat(),
         Writer::Changing {
             point,
             alteration,
             stage,
+            steps,
         } => {
             let change = [vec![2, point], alteration_numbers(alteration)].concat();
-            [change, change_stage_numbers(stage)].concat()
+            [change, change_stage_numbers(stage), vec![steps]].concat()
         }
-        Writer::Removing { point, stage } => {
-            [vec![3, point], removal_stage_numbers(stage)].concat()
-        }
+        Writer::Removing {
+            point,
+            stage,
+            steps,
+        } => [vec![3, point], removal_stage_numbers(stage), vec![steps]].concat(),
     }
 }
 

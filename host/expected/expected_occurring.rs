@@ -3,7 +3,7 @@
 
 use crate::reference_calls::{Answer, Call};
 use crate::reference_command::Entry;
-use crate::reference_table::Step;
+use crate::reference_table::{Ended, Ending, Step};
 use crate::reference_turn::Served;
 use crate::reference_writer::WriterStep;
 use std::collections::BTreeMap;
@@ -11,7 +11,7 @@ use std::collections::BTreeMap;
 /// Each must occur so often.
 const TIMES: u32 = 10;
 
-const MUST_OCCUR: [&str; 42] = [
+const MUST_OCCUR: [&str; 43] = [
     "start of a lookup",
     "start of a walk",
     "reader's step",
@@ -22,7 +22,8 @@ const MUST_OCCUR: [&str; 42] = [
     "writer's step",
     "turn",
     "started",
-    "given again",
+    "value given again",
+    "7 given again",
     "found",
     "reader's 7",
     "walk's word",
@@ -94,7 +95,10 @@ fn call_name(call: Call) -> &'static str {
 fn answer_name(answer: Answer) -> String {
     let name = match answer {
         Answer::Start(Ok(())) | Answer::Entry(Ok(Entry::Started)) => "started",
-        Answer::Entry(Ok(Entry::GivenAgain(_))) => "given again",
+        Answer::Entry(Ok(Entry::GivenAgain { answer, .. })) => match answer {
+            Some(_) => "value given again",
+            None => "7 given again",
+        },
         Answer::Reader(Ok(step)) => reader_step_name(step),
         Answer::Writer(Ok(step)) => writer_step_name(step),
         Answer::Turn(turn) => return turn_name(turn),
@@ -118,8 +122,7 @@ fn turn_name(turn: Result<Served, u32>) -> String {
 fn reader_step_name(step: Step) -> &'static str {
     match step {
         Step::Underway => "reader underway",
-        Step::Found(_) => "found",
-        Step::Unknown => "reader's 7",
+        Step::Ended(ended) => ended_name(ended, "reader's 7"),
         Step::Word(_) => "walk's word",
         Step::LastWord(_) => "walk's last word",
     }
@@ -128,10 +131,18 @@ fn reader_step_name(step: Step) -> &'static str {
 fn writer_step_name(step: WriterStep) -> &'static str {
     match step {
         WriterStep::Underway => "writer underway",
-        WriterStep::Put { .. } => "placed",
-        WriterStep::Changed(_) => "changed",
-        WriterStep::Removed(_) => "removed",
-        WriterStep::NoPerch => "no perch",
-        WriterStep::Unknown => "writer's 7",
+        WriterStep::Ended(ended) => ended_name(ended, "writer's 7"),
+    }
+}
+
+/// The name of 7 says whose it is.
+fn ended_name(ended: Ended, unknown: &'static str) -> &'static str {
+    match ended.ending {
+        Ending::Found(_) => "found",
+        Ending::Put { .. } => "placed",
+        Ending::Changed(_) => "changed",
+        Ending::Removed(_) => "removed",
+        Ending::NoPerch => "no perch",
+        Ending::Unknown => unknown,
     }
 }

@@ -1,7 +1,7 @@
 //! The writer's operations by their steps: each line shows a call's answer, and the reach, the
 //! counts and the slots that it leaves.
 
-use crate::expected_readers::start_answer;
+use crate::expected_readers::{ended_answer, start_answer};
 use crate::reference_record::{Record, Writer};
 use crate::reference_table::{fresh, Refusal};
 use crate::reference_writer::{start_change, start_put, start_removal, step_writer, WriterStep};
@@ -88,11 +88,7 @@ pub fn spaced<T: ToString>(numbers: &[T]) -> String {
 fn writer_answer(answer: Result<WriterStep, Refusal>) -> String {
     match answer {
         Ok(WriterStep::Underway) => " underway".to_string(),
-        Ok(WriterStep::Put { slot, index }) => format!(" placed {slot} {index}"),
-        Ok(WriterStep::Changed(value)) => format!(" changed {value}"),
-        Ok(WriterStep::Removed(reach)) => format!(" removed {reach}"),
-        Ok(WriterStep::NoPerch) => " ended".to_string() + &refused(6),
-        Ok(WriterStep::Unknown) => " ended".to_string() + &refused(7),
+        Ok(WriterStep::Ended(ended)) => ended_answer(ended),
         Err(refusal) => refused(refusal as u32),
     }
 }

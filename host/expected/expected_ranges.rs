@@ -48,13 +48,16 @@ impl Table {
 
     fn readers(&mut self) {
         for (reader, point) in [(0, 0), (0, 1), (14, 2_147_483_646), (14, 2_147_483_647)] {
-            let search = Search::Unread;
-            let panel = with_reader(reader as usize, Reader::LookingUp { point, search });
+            let panel = with_reader(reader, looking_up(point, Search::Unread, 0));
             self.0.push(panel);
         }
         for (reach, next) in [(4, 4), (5, 1), (0, 0), (2, 0), (2, 3)] {
             let search = Search::Probing { reach, next };
-            let panel = with_reader(0, Reader::LookingUp { point: 1, search });
+            let panel = with_reader(0, looking_up(1, search, 0));
+            self.0.push(panel);
+        }
+        for steps in [5, 6] {
+            let panel = with_reader(0, looking_up(1, Search::Unread, steps));
             self.0.push(panel);
         }
         for next in [7, 8] {
@@ -70,20 +73,24 @@ impl Table {
             (1, 0),
             (1, 5),
         ] {
-            let panel = putting(point, PutStage::Scanning(index));
+            let panel = putting(point, PutStage::Scanning(index), 0);
             self.0.push(panel);
         }
         for (reach, next) in [(4, 4), (5, 1)] {
             let search = Search::Probing { reach, next };
-            let panel = putting(1, PutStage::Searching(search));
+            let panel = putting(1, PutStage::Searching(search), 0);
             self.0.push(panel);
         }
         for index in [0, 4, 5] {
-            let panel = putting(1, PutStage::Found(place(index)));
+            let panel = putting(1, PutStage::Found(place(index)), 0);
             self.0.push(panel);
         }
         for index in [0, 4, 5] {
-            let panel = putting(1, PutStage::Chosen(index));
+            let panel = putting(1, PutStage::Chosen(index), 0);
+            self.0.push(panel);
+        }
+        for steps in [10, 11] {
+            let panel = putting(1, PutStage::Scanning(1), steps);
             self.0.push(panel);
         }
     }
@@ -95,13 +102,13 @@ impl Table {
         };
         let unread = ChangeStage::Searching(Search::Unread);
         for point in [0, 1] {
-            self.0.push(changing(point, masks, unread));
+            self.0.push(changing(point, masks, unread, 0));
         }
         let beyond = ChangeStage::Searching(Search::Probing { reach: 2, next: 3 });
-        self.0.push(changing(1, masks, beyond));
+        self.0.push(changing(1, masks, beyond, 0));
         for index in [4, 5] {
             let found = ChangeStage::Found(place(index));
-            self.0.push(changing(1, masks, found));
+            self.0.push(changing(1, masks, found, 0));
         }
         for (station, number, action) in [
             (32, 16_777_215, 2),
@@ -116,20 +123,27 @@ impl Table {
                 number,
                 action,
             };
-            let panel = changing(1, command, unread);
+            let panel = changing(1, command, unread, 0);
             self.0.push(panel);
+        }
+        for steps in [6, 7] {
+            self.0.push(changing(1, masks, unread, steps));
         }
     }
 
     fn removals(&mut self) {
         for point in [0, 1] {
-            let panel = removing(point, RemovalStage::Lowering);
+            let panel = removing(point, RemovalStage::Lowering, 0);
             self.0.push(panel);
         }
         let beyond = RemovalStage::Searching(Search::Probing { reach: 0, next: 1 });
-        self.0.push(removing(1, beyond));
+        self.0.push(removing(1, beyond, 0));
         for index in [0, 1, 5] {
-            let panel = removing(1, RemovalStage::Found(place(index)));
+            let panel = removing(1, RemovalStage::Found(place(index)), 0);
+            self.0.push(panel);
+        }
+        for steps in [7, 8] {
+            let panel = removing(1, RemovalStage::Lowering, steps);
             self.0.push(panel);
         }
     }
@@ -165,15 +179,24 @@ fn with_reader(reader: usize, work: Reader) -> Record {
     panel
 }
 
+fn looking_up(point: u32, search: Search, steps: u32) -> Reader {
+    Reader::LookingUp {
+        point,
+        search,
+        steps,
+    }
+}
+
 fn with_writer(writer: Writer) -> Record {
     Record { writer, ..panel() }
 }
 
-fn putting(point: u32, stage: PutStage) -> Record {
+fn putting(point: u32, stage: PutStage, steps: u32) -> Record {
     with_writer(Writer::Putting {
         point,
         value: u32::MAX,
         stage,
+        steps,
     })
 }
 
@@ -184,14 +207,19 @@ fn place(index: u32) -> Place {
     }
 }
 
-fn changing(point: u32, alteration: Alteration, stage: ChangeStage) -> Record {
+fn changing(point: u32, alteration: Alteration, stage: ChangeStage, steps: u32) -> Record {
     with_writer(Writer::Changing {
         point,
         alteration,
         stage,
+        steps,
     })
 }
 
-fn removing(point: u32, stage: RemovalStage) -> Record {
-    with_writer(Writer::Removing { point, stage })
+fn removing(point: u32, stage: RemovalStage, steps: u32) -> Record {
+    with_writer(Writer::Removing {
+        point,
+        stage,
+        steps,
+    })
 }

@@ -1,13 +1,16 @@
 //! Lookups and walks over slots that no history leads to, and refusal 1 before the others.
 
-use crate::reference_record::Record;
-use crate::reference_table::{start_lookup, start_walk, step_reader, word_of, Refusal, Step};
+use crate::reference_record::{Reader, Record, Search};
+use crate::reference_table::{
+    start_lookup, start_walk, step_reader, word_of, Ended, Ending, Refusal, Step,
+};
 use crate::refused;
 
 pub fn run() {
     below_the_reach();
     refusal_order();
     nobodys_points();
+    steps_at_their_bound();
     let mut panel = Record::fresh(1, 1);
     let begun = begin_walk(&mut panel, &[u64::MAX], 7);
     println!("{begun}{}", steps(&mut panel, &[u64::MAX], 7, 2));
@@ -36,11 +39,22 @@ pub fn start_answer(started: Result<(), Refusal>) -> String {
     }
 }
 
+pub fn ended_answer(Ended { ending, steps }: Ended) -> String {
+    let ending = match ending {
+        Ending::Found(value) => format!(" found {value}"),
+        Ending::Put { slot, index } => format!(" placed {slot} {index}"),
+        Ending::Changed(value) => format!(" changed {value}"),
+        Ending::Removed(reach) => format!(" removed {reach}"),
+        Ending::NoPerch => " ended".to_string() + &refused(6),
+        Ending::Unknown => " ended".to_string() + &refused(7),
+    };
+    format!("{ending} steps {steps}")
+}
+
 fn step(panel: &mut Record, slots: &[u64], reader: u32) -> String {
     match step_reader(panel, slots, reader) {
         Ok(Step::Underway) => " underway".to_string(),
-        Ok(Step::Found(value)) => format!(" found {value}"),
-        Ok(Step::Unknown) => " ended".to_string() + &refused(7),
+        Ok(Step::Ended(ended)) => ended_answer(ended),
         Ok(Step::Word(word)) => format!(" word {word}"),
         Ok(Step::LastWord(word)) => format!(" last {word}"),
         Err(refusal) => refused(refusal as u32),
@@ -83,6 +97,18 @@ fn nobodys_points() {
     slots[2] = word_of(4_294_967_295, 5);
     lookup(4, &slots, 1);
     lookup(4, &slots, 9);
+}
+
+/// As many steps made as a lookup may take, though it has read nothing yet: the count stays.
+fn steps_at_their_bound() {
+    let mut panel = panel_of(3);
+    panel.readers[0] = Reader::LookingUp {
+        point: 17,
+        search: Search::Unread,
+        steps: 5,
+    };
+    let answers = steps(&mut panel, &stored(), 0, 6);
+    println!("lookup at its bound:{answers}");
 }
 
 /// A record out of range, one in range, and a slot too few, each with the faults that are judged later.

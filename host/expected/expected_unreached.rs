@@ -1,8 +1,10 @@
-//! Records that no history leads to: counts stay at the ends of their ranges, and a step that
-//! stores does not look at what is there.
+//! Records that no history leads to: counts stay at the ends of their ranges, those of steps at their
+//! bounds, and a step that stores does not look at what is there.
 
 use crate::expected_operations::Panel;
-use crate::reference_record::{Alteration, ChangeStage, Place, PutStage, RemovalStage, Writer};
+use crate::reference_record::{
+    Alteration, ChangeStage, Place, PutStage, RemovalStage, Search, Writer,
+};
 
 pub fn run() {
     full_count();
@@ -11,6 +13,7 @@ pub fn run() {
     above_the_reach();
     reach_lowered();
     stores();
+    steps_at_their_bounds();
 }
 
 /// Point 1 in slot 0.
@@ -42,17 +45,43 @@ fn above_the_reach() {
     panel.removal(1);
 }
 
-fn putting(stage: PutStage) -> Writer {
+fn putting(stage: PutStage, steps: u32) -> Writer {
     Writer::Putting {
         point: 9,
         value: 6,
         stage,
+        steps,
+    }
+}
+
+fn changing(stage: ChangeStage, steps: u32) -> Writer {
+    Writer::Changing {
+        point: 9,
+        alteration: Alteration::Given { keep: 1, flip: 8 },
+        stage,
+        steps,
+    }
+}
+
+fn removing(point: u32, stage: RemovalStage, steps: u32) -> Writer {
+    Writer::Removing {
+        point,
+        stage,
+        steps,
+    }
+}
+
+/// Each to its end, one behind the other.
+fn finish_all(panel: &mut Panel, works: &[Writer]) {
+    for &work in works {
+        panel.record.writer = work;
+        panel.finish();
     }
 }
 
 fn reach_lowered() {
     let mut panel = stored();
-    panel.record.writer = putting(PutStage::Chosen(3));
+    panel.record.writer = putting(PutStage::Chosen(3), 0);
     panel.step();
     panel.record.reach = 2;
     panel.altered();
@@ -62,19 +91,21 @@ fn reach_lowered() {
 fn stores() {
     let mut panel = stored();
     let place = Place { index: 4, value: 3 };
-    let changing = Writer::Changing {
-        point: 9,
-        alteration: Alteration::Given { keep: 1, flip: 8 },
-        stage: ChangeStage::Found(place),
-    };
-    let removing = Writer::Removing {
-        point: 17,
-        stage: RemovalStage::Found(place),
-    };
-    let chosen = putting(PutStage::Chosen(1));
-    let found = putting(PutStage::Found(place));
-    for work in [chosen, found, changing, removing] {
-        panel.record.writer = work;
-        panel.finish();
-    }
+    let works = [
+        putting(PutStage::Chosen(1), 0),
+        putting(PutStage::Found(place), 0),
+        changing(ChangeStage::Found(place), 0),
+        removing(17, RemovalStage::Found(place), 0),
+    ];
+    finish_all(&mut panel, &works);
+}
+
+fn steps_at_their_bounds() {
+    let mut panel = stored();
+    let works = [
+        putting(PutStage::Scanning(1), 10),
+        changing(ChangeStage::Searching(Search::Unread), 6),
+        removing(9, RemovalStage::Searching(Search::Unread), 7),
+    ];
+    finish_all(&mut panel, &works);
 }

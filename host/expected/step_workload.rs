@@ -2,7 +2,7 @@
 
 use crate::reference_record::Record;
 use crate::reference_table::{
-    position, start_lookup, start_walk, step_reader, word_of, Refusal, Step,
+    position, start_lookup, start_walk, step_reader, word_of, Ended, Ending, Refusal, Step,
 };
 use crate::reference_turn::{turn, Served};
 use crate::reference_writer::{start_change, start_put, start_removal, step_writer, WriterStep};
@@ -162,8 +162,7 @@ fn turn_worth(served: Result<Served, Refusal>) -> u64 {
 fn reader_worth(step: Step) -> u64 {
     match step {
         Step::Underway => 1,
-        Step::Found(value) => value.into(),
-        Step::Unknown => 7,
+        Step::Ended(ended) => ended_worth(ended),
         Step::Word(word) | Step::LastWord(word) => word % (1 << 32),
     }
 }
@@ -213,10 +212,17 @@ fn writer_call(record: &mut Record, slots: &mut [u64], tally: &mut Tally) -> boo
 fn writer_worth(step: WriterStep) -> u64 {
     match step {
         WriterStep::Underway => 1,
-        WriterStep::Put { slot, .. } => slot.into(),
-        WriterStep::Changed(value) => value.into(),
-        WriterStep::Removed(reach) => reach.into(),
-        WriterStep::NoPerch => 6,
-        WriterStep::Unknown => 7,
+        WriterStep::Ended(ended) => ended_worth(ended),
     }
+}
+
+/// What the operation gave, and its steps.
+fn ended_worth(Ended { ending, steps }: Ended) -> u64 {
+    let given = match ending {
+        Ending::Put { slot, .. } => slot,
+        Ending::Found(number) | Ending::Changed(number) | Ending::Removed(number) => number,
+        Ending::NoPerch => 6,
+        Ending::Unknown => 7,
+    };
+    u64::from(given) + u64::from(steps)
 }

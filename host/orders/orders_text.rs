@@ -2,7 +2,7 @@
 
 use crate::reference_calls::{Answer, Call};
 use crate::reference_command::Entry;
-use crate::reference_table::{point_of, value_of, Step};
+use crate::reference_table::{point_of, value_of, Ended, Ending, Step};
 use crate::reference_turn::Served;
 use crate::reference_writer::WriterStep;
 
@@ -53,8 +53,10 @@ fn refusal(number: u32) -> String {
 fn entered(entry: Entry) -> String {
     match entry {
         Entry::Started => "started".to_string(),
-        Entry::GivenAgain(Some(value)) => format!("given again: new value {value}"),
-        Entry::GivenAgain(None) => format!("given again: {}", refusal(7)),
+        Entry::GivenAgain { answer, steps } => {
+            let ending = answer.map_or(Ending::Unknown, Ending::Changed);
+            format!("given again: {}", ended(ending.after(steps)))
+        }
     }
 }
 
@@ -69,8 +71,7 @@ fn served(turn: Served) -> String {
 fn read(step: Step) -> String {
     match step {
         Step::Underway => "underway".to_string(),
-        Step::Found(value) => format!("value {value}"),
-        Step::Unknown => refusal(7),
+        Step::Ended(lookup) => ended(lookup),
         Step::Word(word) => slot(word),
         Step::LastWord(word) => format!("last: {}", slot(word)),
     }
@@ -92,10 +93,18 @@ pub fn row(word: u64) -> String {
 fn written(step: WriterStep) -> String {
     match step {
         WriterStep::Underway => "underway".to_string(),
-        WriterStep::Put { slot, index } => format!("placed in slot {slot}, index {index}"),
-        WriterStep::Changed(value) => format!("new value {value}"),
-        WriterStep::Removed(reach) => format!("reach {reach}"),
-        WriterStep::NoPerch => refusal(6),
-        WriterStep::Unknown => refusal(7),
+        WriterStep::Ended(operation) => ended(operation),
     }
+}
+
+fn ended(Ended { ending, steps }: Ended) -> String {
+    let ending = match ending {
+        Ending::Found(value) => format!("value {value}"),
+        Ending::Put { slot, index } => format!("placed in slot {slot}, index {index}"),
+        Ending::Changed(value) => format!("new value {value}"),
+        Ending::Removed(reach) => format!("reach {reach}"),
+        Ending::NoPerch => refusal(6),
+        Ending::Unknown => refusal(7),
+    };
+    format!("{ending}, steps {steps}")
 }

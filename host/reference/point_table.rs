@@ -1,38 +1,23 @@
-//! A table of points by its whole operations: all that the bench of document 01 asks of one.
+//! A table of points by its whole operations: all that the bench of documents 01 and 02 asks of one.
 
 use crate::reference_record::{is_point, FUNCTIONS, SLOTS};
+use crate::reference_table::{Ended, Refusal};
 
+/// Its operations give how they ended, unless the start is refused.
 pub trait PointTable: Sized {
     /// An empty table, unless a size is out of range.
     fn new(m: u32, k: u32) -> Option<Self>;
 
-    fn put(&mut self, point: u32, value: u32) -> Result<Place, Refusal>;
+    fn put(&mut self, point: u32, value: u32) -> Result<Ended, Refusal>;
 
-    /// Gives the value.
-    fn lookup(&mut self, point: u32) -> Result<u32, Refusal>;
+    fn lookup(&mut self, point: u32) -> Result<Ended, Refusal>;
 
-    /// Gives the reach after.
-    fn remove(&mut self, point: u32) -> Result<u32, Refusal>;
+    fn remove(&mut self, point: u32) -> Result<Ended, Refusal>;
 
     fn reach(&self) -> u32;
 
     /// How many points are stored.
     fn points(&self) -> u32;
-}
-
-/// Where a point sits: the slot, and the index of the function that leads there.
-#[derive(Clone, Copy, Debug, PartialEq, Eq)]
-pub struct Place {
-    pub slot: u32,
-    pub index: u32,
-}
-
-/// The refusals that whole operations can give, with their numbers in the refusal table.
-#[derive(Clone, Copy, Debug, PartialEq, Eq)]
-pub enum Refusal {
-    Address = 2,
-    NoPerch = 6,
-    Unknown = 7,
 }
 
 pub fn are_sizes(m: u32, k: u32) -> bool {

@@ -1,9 +1,10 @@
 //! The command entry of the second table, written from document 01 ("Commands" and "Frames") and
-//! not from the library.
+//! document 02 (N2), and not from the library.
 
 use crate::reference_frame::{self, Fields};
-use crate::reference_record::{Alteration, ChangeStage, Record, Search, Writer};
+use crate::reference_record::{Alteration, Record, Writer};
 use crate::reference_table::fit;
+use crate::reference_writer::change_before_steps;
 
 /// The only map that the entry takes.
 const MAP: u8 = 0x0F;
@@ -16,8 +17,12 @@ const ALTERED: u32 = 12;
 #[derive(Clone, Copy, Debug, PartialEq, Eq)]
 pub enum Entry {
     Started,
-    /// The stored answer of the station's last command: the value, or none for refusal 7.
-    GivenAgain(Option<u32>),
+    /// The stored answer of the station's last command, for which no step was made.
+    GivenAgain {
+        /// The value, or none for refusal 7.
+        answer: Option<u32>,
+        steps: u32,
+    },
 }
 
 /// Takes a command, or gives the number of the refusal.
@@ -27,7 +32,10 @@ pub fn start_command(record: &mut Record, slots: &[u64], frame: &[u8]) -> Result
     let last = record.stations[sent.station as usize - 1];
     if sent.number == last.number {
         return if (sent.point, sent.action) == (last.point, last.action) {
-            Ok(Entry::GivenAgain(last.answer))
+            Ok(Entry::GivenAgain {
+                answer: last.answer,
+                steps: 0,
+            })
         } else {
             Err(ALTERED)
         };
@@ -52,13 +60,10 @@ fn read(frame: &[u8]) -> Result<Fields, reference_frame::Refusal> {
 
 /// The command's change before its first step.
 fn work_of(sent: &Fields) -> Writer {
-    Writer::Changing {
-        point: sent.point,
-        alteration: Alteration::Commanded {
-            station: sent.station,
-            number: sent.number,
-            action: sent.action,
-        },
-        stage: ChangeStage::Searching(Search::Unread),
-    }
+    let command = Alteration::Commanded {
+        station: sent.station,
+        number: sent.number,
+        action: sent.action,
+    };
+    change_before_steps(sent.point, command)
 }

@@ -1,24 +1,23 @@
 //! Whole operations of the second table: each starts, and takes its steps to the end.
 
 use crate::reference_record::Record;
-use crate::reference_table::{start_lookup, step_reader, Refusal, Step};
+use crate::reference_table::{start_lookup, step_reader, Ended, Refusal, Step};
 use crate::reference_writer::{start_change, start_put, start_removal, step_writer, WriterStep};
-
-/// What the last step answered, and how many steps there were.
-#[derive(Clone, Copy, Debug, PartialEq, Eq)]
-pub struct Ended<T> {
-    pub answer: T,
-    pub steps: u32,
-}
 
 pub fn lookup(
     record: &mut Record,
     slots: &[u64],
     reader: u32,
     point: u32,
-) -> Result<Ended<Step>, Refusal> {
+) -> Result<Ended, Refusal> {
     start_lookup(record, slots, reader, point)?;
-    until_ended(Step::Underway, || step_reader(record, slots, reader))
+    loop {
+        match step_reader(record, slots, reader)? {
+            Step::Underway => {}
+            Step::Ended(ended) => return Ok(ended),
+            word => panic!("a lookup's step gave {word:?}"),
+        }
+    }
 }
 
 pub fn put(
@@ -26,7 +25,7 @@ pub fn put(
     slots: &mut [u64],
     point: u32,
     value: u32,
-) -> Result<Ended<WriterStep>, Refusal> {
+) -> Result<Ended, Refusal> {
     start_put(record, slots, point, value)?;
     finish(record, slots)
 }
@@ -37,35 +36,21 @@ pub fn change(
     point: u32,
     keep: u32,
     flip: u32,
-) -> Result<Ended<WriterStep>, Refusal> {
+) -> Result<Ended, Refusal> {
     start_change(record, slots, point, keep, flip)?;
     finish(record, slots)
 }
 
-pub fn removal(
-    record: &mut Record,
-    slots: &mut [u64],
-    point: u32,
-) -> Result<Ended<WriterStep>, Refusal> {
+pub fn removal(record: &mut Record, slots: &mut [u64], point: u32) -> Result<Ended, Refusal> {
     start_removal(record, slots, point)?;
     finish(record, slots)
 }
 
 /// The writer's steps to the end of the work that it has.
-pub fn finish(record: &mut Record, slots: &mut [u64]) -> Result<Ended<WriterStep>, Refusal> {
-    until_ended(WriterStep::Underway, || step_writer(record, slots))
-}
-
-fn until_ended<T: PartialEq>(
-    underway: T,
-    mut step: impl FnMut() -> Result<T, Refusal>,
-) -> Result<Ended<T>, Refusal> {
-    let mut steps = 0;
+pub fn finish(record: &mut Record, slots: &mut [u64]) -> Result<Ended, Refusal> {
     loop {
-        let answer = step()?;
-        steps += 1;
-        if answer != underway {
-            return Ok(Ended { answer, steps });
+        if let WriterStep::Ended(ended) = step_writer(record, slots)? {
+            return Ok(ended);
         }
     }
 }

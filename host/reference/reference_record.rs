@@ -40,11 +40,27 @@ pub enum Search {
     },
 }
 
+/// The operations whose steps are counted.
+#[derive(Clone, Copy, Debug, PartialEq, Eq)]
+pub enum Operation {
+    Lookup,
+    Put,
+    Change,
+    Removal,
+}
+
 #[derive(Clone, Copy, Debug, PartialEq, Eq)]
 pub enum Reader {
     Idle,
-    LookingUp { point: u32, search: Search },
-    Walking { next: u32 },
+    LookingUp {
+        point: u32,
+        search: Search,
+        /// How many were made.
+        steps: u32,
+    },
+    Walking {
+        next: u32,
+    },
 }
 
 #[derive(Clone, Copy, Debug, PartialEq, Eq)]
@@ -54,15 +70,18 @@ pub enum Writer {
         point: u32,
         value: u32,
         stage: PutStage,
+        steps: u32,
     },
     Changing {
         point: u32,
         alteration: Alteration,
         stage: ChangeStage,
+        steps: u32,
     },
     Removing {
         point: u32,
         stage: RemovalStage,
+        steps: u32,
     },
 }
 
@@ -163,6 +182,27 @@ impl Record {
     }
 }
 
+impl Operation {
+    /// The most steps that it takes.
+    fn step_bound(self, k: u32) -> u32 {
+        match self {
+            Operation::Lookup => k + 1,
+            Operation::Put => 2 * k + 2,
+            Operation::Change => k + 2,
+            Operation::Removal => k + 3,
+        }
+    }
+
+    fn steps_in_range(self, steps: u32, k: u32) -> bool {
+        steps <= self.step_bound(k)
+    }
+
+    /// The count with one step more. On a record that no history leads to it stays at the bound.
+    pub fn counted(self, steps: u32, k: u32) -> u32 {
+        (steps + 1).min(self.step_bound(k))
+    }
+}
+
 impl Search {
     fn in_range(&self, k: u32) -> bool {
         match *self {
@@ -182,7 +222,15 @@ impl Reader {
     fn in_range(&self, m: u32, k: u32) -> bool {
         match self {
             Reader::Idle => true,
-            Reader::LookingUp { point, search } => is_point(*point) && search.in_range(k),
+            Reader::LookingUp {
+                point,
+                search,
+                steps,
+            } => {
+                is_point(*point)
+                    && search.in_range(k)
+                    && Operation::Lookup.steps_in_range(*steps, k)
+            }
             Reader::Walking { next } => *next < m,
         }
     }
@@ -192,13 +240,32 @@ impl Writer {
     fn in_range(&self, k: u32) -> bool {
         match self {
             Writer::Idle => true,
-            Writer::Putting { point, stage, .. } => is_point(*point) && stage.in_range(k),
+            Writer::Putting {
+                point,
+                stage,
+                steps,
+                ..
+            } => is_point(*point) && stage.in_range(k) && Operation::Put.steps_in_range(*steps, k),
             Writer::Changing {
                 point,
                 alteration,
                 stage,
-            } => is_point(*point) && alteration.in_range() && stage.in_range(k),
-            Writer::Removing { point, stage } => is_point(*point) && stage.in_range(k),
+                steps,
+            } => {
+                is_point(*point)
+                    && alteration.in_range()
+                    && stage.in_range(k)
+                    && Operation::Change.steps_in_range(*steps, k)
+            }
+            Writer::Removing {
+                point,
+                stage,
+                steps,
+            } => {
+                is_point(*point)
+                    && stage.in_range(k)
+                    && Operation::Removal.steps_in_range(*steps, k)
+            }
         }
     }
 }

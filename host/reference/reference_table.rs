@@ -1,7 +1,7 @@
-//! A second table: its fresh panel, its readers and its disabled points, written from document 01
-//! and not from the library. Its writer is in `reference_writer`.
+//! A second table: its fresh panel, its readers and its disabled points, written from documents 01
+//! and 02 and not from the library. Its writer is in `reference_writer`.
 
-use crate::reference_record::{is_point, Place, Reader, Record, Search};
+use crate::reference_record::{is_point, Operation, Place, Reader, Record, Search};
 
 const P: u64 = 2_147_483_647;
 
@@ -19,13 +19,47 @@ pub enum Refusal {
     Unknown = 7,
 }
 
+/// What a lookup, a put, a change or a removal ends with.
+#[derive(Clone, Copy, Debug, PartialEq, Eq)]
+pub enum Ending {
+    /// The value looked up.
+    Found(u32),
+    Put {
+        slot: u32,
+        index: u32,
+    },
+    /// The new value.
+    Changed(u32),
+    /// The reach after.
+    Removed(u32),
+    /// Refusal 6.
+    NoPerch,
+    /// Refusal 7.
+    Unknown,
+}
+
+/// An operation's ending, and the number of steps that it took.
+#[derive(Clone, Copy, Debug, PartialEq, Eq)]
+pub struct Ended {
+    pub ending: Ending,
+    pub steps: u32,
+}
+
+impl Ending {
+    pub fn after(self, steps: u32) -> Ended {
+        Ended {
+            ending: self,
+            steps,
+        }
+    }
+}
+
 /// What a reader's step answers. All but `Underway` and `Word` end its work.
 #[derive(Clone, Copy, Debug, PartialEq, Eq)]
 pub enum Step {
     Underway,
-    Found(u32),
-    /// Refusal 7, with which a lookup ends.
-    Unknown,
+    /// Of a lookup.
+    Ended(Ended),
     Word(u64),
     LastWord(u64),
 }
@@ -115,8 +149,12 @@ pub fn start_lookup(
     if !is_point(point) {
         return Err(Refusal::Address);
     }
-    let search = Search::Unread;
-    start(work, Reader::LookingUp { point, search })
+    let new = Reader::LookingUp {
+        point,
+        search: Search::Unread,
+        steps: 0,
+    };
+    start(work, new)
 }
 
 pub fn start_walk(record: &mut Record, slots: &[u64], reader: u32) -> Result<(), Refusal> {
@@ -145,22 +183,44 @@ pub fn step_fitting_reader(
     slots: &[u64],
     reader: u32,
 ) -> Result<Step, Refusal> {
-    let reach_now = record.reach;
+    let Record { reach, k, .. } = *record;
     let work = work_of(record, reader)?;
     let (answer, after) = match *work {
         Reader::Idle => return Err(Refusal::Idle),
-        Reader::LookingUp { point, search } => look_up(slots, reach_now, point, search),
+        Reader::LookingUp {
+            point,
+            search,
+            steps,
+        } => {
+            let steps = Operation::Lookup.counted(steps, k);
+            look_up(slots, reach, point, search, steps)
+        }
         Reader::Walking { next } => walk(slots, next),
     };
     *work = after;
     Ok(answer)
 }
 
-fn look_up(slots: &[u64], reach_now: u32, point: u32, search: Search) -> (Step, Reader) {
+/// One access of a lookup that has made so many steps with this one.
+fn look_up(
+    slots: &[u64],
+    reach_now: u32,
+    point: u32,
+    search: Search,
+    steps: u32,
+) -> (Step, Reader) {
+    let end = |ending: Ending| (Step::Ended(ending.after(steps)), Reader::Idle);
     match search_step(slots, reach_now, point, search) {
-        Searched::Going(search) => (Step::Underway, Reader::LookingUp { point, search }),
-        Searched::Found(place) => (Step::Found(place.value), Reader::Idle),
-        Searched::Absent => (Step::Unknown, Reader::Idle),
+        Searched::Going(search) => {
+            let work = Reader::LookingUp {
+                point,
+                search,
+                steps,
+            };
+            (Step::Underway, work)
+        }
+        Searched::Found(place) => end(Ending::Found(place.value)),
+        Searched::Absent => end(Ending::Unknown),
     }
 }
 

@@ -1,27 +1,20 @@
 //! The writer of the second table: puts, changes and removals by single steps, written from
-//! document 01 and not from the library.
+//! documents 01 and 02 and not from the library.
 
 use crate::reference_record::{
-    is_point, Alteration, ChangeStage, PutStage, Record, RemovalStage, Search, Station, Writer,
+    is_point, Alteration, ChangeStage, Operation, PutStage, Record, RemovalStage, Search, Station,
+    Writer,
 };
-use crate::reference_table::{fit, position, search_step, word_of, Refusal, Searched};
+use crate::reference_table::{
+    fit, position, search_step, word_of, Ended, Ending, Refusal, Searched,
+};
+use std::ops::ControlFlow::{self, Break, Continue};
 
-/// What a writer's step answers. All but `Underway` end its work.
+/// What a writer's step answers.
 #[derive(Clone, Copy, Debug, PartialEq, Eq)]
 pub enum WriterStep {
     Underway,
-    Put {
-        slot: u32,
-        index: u32,
-    },
-    /// The new value.
-    Changed(u32),
-    /// The reach after.
-    Removed(u32),
-    /// Refusal 6, with which a put ends.
-    NoPerch,
-    /// Refusal 7, with which a change or a removal ends.
-    Unknown,
+    Ended(Ended),
 }
 
 pub fn start_put(
@@ -30,11 +23,11 @@ pub fn start_put(
     point: u32,
     value: u32,
 ) -> Result<(), Refusal> {
-    let stage = PutStage::Searching(Search::Unread);
     let work = Writer::Putting {
         point,
         value,
-        stage,
+        stage: PutStage::Searching(Search::Unread),
+        steps: 0,
     };
     start(record, slots, point, work)
 }
@@ -46,17 +39,27 @@ pub fn start_change(
     keep: u32,
     flip: u32,
 ) -> Result<(), Refusal> {
-    let work = Writer::Changing {
+    let alteration = Alteration::Given { keep, flip };
+    start(record, slots, point, change_before_steps(point, alteration))
+}
+
+/// A change that is given or commanded, before its first step.
+pub fn change_before_steps(point: u32, alteration: Alteration) -> Writer {
+    Writer::Changing {
         point,
-        alteration: Alteration::Given { keep, flip },
+        alteration,
         stage: ChangeStage::Searching(Search::Unread),
-    };
-    start(record, slots, point, work)
+        steps: 0,
+    }
 }
 
 pub fn start_removal(record: &mut Record, slots: &[u64], point: u32) -> Result<(), Refusal> {
-    let stage = RemovalStage::Searching(Search::Unread);
-    start(record, slots, point, Writer::Removing { point, stage })
+    let work = Writer::Removing {
+        point,
+        stage: RemovalStage::Searching(Search::Unread),
+        steps: 0,
+    };
+    start(record, slots, point, work)
 }
 
 /// Refusals 1, 2 and 4, else the writer has its new work.
@@ -80,22 +83,76 @@ pub fn step_writer(record: &mut Record, slots: &mut [u64]) -> Result<WriterStep,
 
 /// The same where record and slots are known to fit.
 pub fn step_fitting_writer(record: &mut Record, slots: &mut [u64]) -> Result<WriterStep, Refusal> {
+    count_step(&mut record.writer, record.k);
     let (answer, after) = match record.writer {
         Writer::Idle => return Err(Refusal::Idle),
         Writer::Putting {
             point,
             value,
             stage,
-        } => step_put(record, slots, point, value, stage),
+            steps,
+        } => {
+            let next = step_put(record, slots, point, value, stage);
+            stepped(next, steps, |stage| Writer::Putting {
+                point,
+                value,
+                stage,
+                steps,
+            })
+        }
         Writer::Changing {
             point,
             alteration,
             stage,
-        } => step_change(record, slots, point, alteration, stage),
-        Writer::Removing { point, stage } => step_removal(record, slots, point, stage),
+            steps,
+        } => {
+            let next = step_change(record, slots, point, alteration, stage);
+            stepped(next, steps, |stage| Writer::Changing {
+                point,
+                alteration,
+                stage,
+                steps,
+            })
+        }
+        Writer::Removing {
+            point,
+            stage,
+            steps,
+        } => {
+            let next = step_removal(record, slots, point, stage);
+            stepped(next, steps, |stage| Writer::Removing {
+                point,
+                stage,
+                steps,
+            })
+        }
     };
     record.writer = after;
     Ok(answer)
+}
+
+/// The step that is being made is one more; an idle writer makes none.
+fn count_step(work: &mut Writer, k: u32) {
+    let (operation, steps) = match work {
+        Writer::Idle => return,
+        Writer::Putting { steps, .. } => (Operation::Put, steps),
+        Writer::Changing { steps, .. } => (Operation::Change, steps),
+        Writer::Removing { steps, .. } => (Operation::Removal, steps),
+    };
+    *steps = operation.counted(*steps, k);
+}
+
+/// What a step answers, and the work behind it: an operation goes on in a stage, or ends after so
+/// many steps.
+fn stepped<S>(
+    next: ControlFlow<Ending, S>,
+    steps: u32,
+    work: impl FnOnce(S) -> Writer,
+) -> (WriterStep, Writer) {
+    match next {
+        Continue(stage) => (WriterStep::Underway, work(stage)),
+        Break(ending) => (WriterStep::Ended(ending.after(steps)), Writer::Idle),
+    }
 }
 
 fn step_put(
@@ -104,37 +161,29 @@ fn step_put(
     point: u32,
     value: u32,
     stage: PutStage,
-) -> (WriterStep, Writer) {
-    let go_on = |stage| {
-        let work = Writer::Putting {
-            point,
-            value,
-            stage,
-        };
-        (WriterStep::Underway, work)
-    };
+) -> ControlFlow<Ending, PutStage> {
     match stage {
         PutStage::Searching(search) => {
-            go_on(match search_step(slots, record.reach, point, search) {
+            Continue(match search_step(slots, record.reach, point, search) {
                 Searched::Going(search) => PutStage::Searching(search),
                 Searched::Found(place) => PutStage::Found(place),
                 Searched::Absent => PutStage::Scanning(1),
             })
         }
         PutStage::Scanning(next) if slots[position(record.m, point, next)] == 0 => {
-            go_on(PutStage::Chosen(next))
+            Continue(PutStage::Chosen(next))
         }
-        PutStage::Scanning(next) if next < record.k => go_on(PutStage::Scanning(next + 1)),
-        PutStage::Scanning(_) => (WriterStep::NoPerch, Writer::Idle),
-        PutStage::Found(place) => (store_put(slots, point, value, place.index), Writer::Idle),
+        PutStage::Scanning(next) if next < record.k => Continue(PutStage::Scanning(next + 1)),
+        PutStage::Scanning(_) => Break(Ending::NoPerch),
+        PutStage::Found(place) => Break(store_put(slots, point, value, place.index)),
         // The reach goes first: a lookup that begins in between must come as far as the new slot.
         PutStage::Chosen(index) if index > record.reach => {
             record.reach = index;
-            go_on(stage)
+            Continue(stage)
         }
         PutStage::Chosen(index) => {
             count(record, index);
-            (store_put(slots, point, value, index), Writer::Idle)
+            Break(store_put(slots, point, value, index))
         }
     }
 }
@@ -145,22 +194,14 @@ fn step_change(
     point: u32,
     alteration: Alteration,
     stage: ChangeStage,
-) -> (WriterStep, Writer) {
-    let go_on = |stage| {
-        let work = Writer::Changing {
-            point,
-            alteration,
-            stage,
-        };
-        (WriterStep::Underway, work)
-    };
+) -> ControlFlow<Ending, ChangeStage> {
     match stage {
         ChangeStage::Searching(search) => match search_step(slots, record.reach, point, search) {
-            Searched::Going(search) => go_on(ChangeStage::Searching(search)),
-            Searched::Found(place) => go_on(ChangeStage::Found(place)),
+            Searched::Going(search) => Continue(ChangeStage::Searching(search)),
+            Searched::Found(place) => Continue(ChangeStage::Found(place)),
             Searched::Absent => {
                 keep_command(record, point, alteration, None);
-                (WriterStep::Unknown, Writer::Idle)
+                Break(Ending::Unknown)
             }
         },
         ChangeStage::Found(place) => {
@@ -168,7 +209,7 @@ fn step_change(
             let value = (place.value & keep) ^ flip;
             store(slots, point, place.index, word_of(point, value));
             keep_command(record, point, alteration, Some(value));
-            (WriterStep::Changed(value), Writer::Idle)
+            Break(Ending::Changed(value))
         }
     }
 }
@@ -178,25 +219,24 @@ fn step_removal(
     slots: &mut [u64],
     point: u32,
     stage: RemovalStage,
-) -> (WriterStep, Writer) {
-    let go_on = |stage| (WriterStep::Underway, Writer::Removing { point, stage });
+) -> ControlFlow<Ending, RemovalStage> {
     match stage {
         RemovalStage::Searching(search) => match search_step(slots, record.reach, point, search) {
-            Searched::Going(search) => go_on(RemovalStage::Searching(search)),
-            Searched::Found(place) => go_on(RemovalStage::Found(place)),
-            Searched::Absent => (WriterStep::Unknown, Writer::Idle),
+            Searched::Going(search) => Continue(RemovalStage::Searching(search)),
+            Searched::Found(place) => Continue(RemovalStage::Found(place)),
+            Searched::Absent => Break(Ending::Unknown),
         },
         RemovalStage::Found(place) => {
             store(slots, point, place.index, 0);
             if uncount(record, place.index) == 0 && place.index == record.reach {
-                go_on(RemovalStage::Lowering)
+                Continue(RemovalStage::Lowering)
             } else {
-                (WriterStep::Removed(record.reach), Writer::Idle)
+                Break(Ending::Removed(record.reach))
             }
         }
         RemovalStage::Lowering => {
             record.reach = largest_counted(record);
-            (WriterStep::Removed(record.reach), Writer::Idle)
+            Break(Ending::Removed(record.reach))
         }
     }
 }
@@ -208,9 +248,9 @@ fn store(slots: &mut [u64], point: u32, index: u32, word: u64) -> u32 {
     slot as u32
 }
 
-fn store_put(slots: &mut [u64], point: u32, value: u32, index: u32) -> WriterStep {
+fn store_put(slots: &mut [u64], point: u32, value: u32, index: u32) -> Ending {
     let slot = store(slots, point, index, word_of(point, value));
-    WriterStep::Put { slot, index }
+    Ending::Put { slot, index }
 }
 
 /// One more stored point uses the index; a count at the end of its range stays there.

@@ -1,11 +1,10 @@
 //! The point table by steps: the second table's whole operations, on a record that is altered in
 //! place. Every start and every step judges the ranges of the whole record.
 
-use crate::point_table::{Place, PointTable, Refusal};
-use crate::reference_operations::{lookup, put, removal, Ended};
+use crate::point_table::PointTable;
+use crate::reference_operations::{lookup, put, removal};
 use crate::reference_record::{Record, SLOTS};
-use crate::reference_table::{self, fresh, Step};
-use crate::reference_writer::WriterStep;
+use crate::reference_table::{fresh, Ended, Refusal};
 
 /// The reader that looks up.
 const READER: u32 = 0;
@@ -29,31 +28,19 @@ impl PointTable for StepTable {
         })
     }
 
-    fn put(&mut self, point: u32, value: u32) -> Result<Place, Refusal> {
+    fn put(&mut self, point: u32, value: u32) -> Result<Ended, Refusal> {
         let ended = put(&mut self.record, &mut self.slots, point, value);
-        match self.counted(ended)? {
-            WriterStep::Put { slot, index } => Ok(Place { slot, index }),
-            WriterStep::NoPerch => Err(Refusal::NoPerch),
-            other => panic!("a put ended with {other:?}"),
-        }
+        self.add_steps(ended)
     }
 
-    fn lookup(&mut self, point: u32) -> Result<u32, Refusal> {
+    fn lookup(&mut self, point: u32) -> Result<Ended, Refusal> {
         let ended = lookup(&mut self.record, &self.slots, READER, point);
-        match self.counted(ended)? {
-            Step::Found(value) => Ok(value),
-            Step::Unknown => Err(Refusal::Unknown),
-            other => panic!("a lookup ended with {other:?}"),
-        }
+        self.add_steps(ended)
     }
 
-    fn remove(&mut self, point: u32) -> Result<u32, Refusal> {
+    fn remove(&mut self, point: u32) -> Result<Ended, Refusal> {
         let ended = removal(&mut self.record, &mut self.slots, point);
-        match self.counted(ended)? {
-            WriterStep::Removed(reach) => Ok(reach),
-            WriterStep::Unknown => Err(Refusal::Unknown),
-            other => panic!("a removal ended with {other:?}"),
-        }
+        self.add_steps(ended)
     }
 
     fn reach(&self) -> u32 {
@@ -66,18 +53,9 @@ impl PointTable for StepTable {
 }
 
 impl StepTable {
-    /// The answer with which an operation ended, its steps counted.
-    fn counted<T>(
-        &mut self,
-        ended: Result<Ended<T>, reference_table::Refusal>,
-    ) -> Result<T, Refusal> {
-        match ended {
-            Ok(Ended { answer, steps }) => {
-                self.steps += u64::from(steps);
-                Ok(answer)
-            }
-            Err(reference_table::Refusal::Address) => Err(Refusal::Address),
-            Err(other) => panic!("an operation was refused: {other:?}"),
-        }
+    /// Gives what it is given.
+    fn add_steps(&mut self, ended: Result<Ended, Refusal>) -> Result<Ended, Refusal> {
+        self.steps += ended.map_or(0, |ended| u64::from(ended.steps));
+        ended
     }
 }

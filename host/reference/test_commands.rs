@@ -29,9 +29,10 @@ impl Notes {
     pub fn answered(&mut self, sent: Sent, answer: Result<Entry, u32>, work: Writer) {
         let last = self.last_number(sent.station);
         let expected = match self.ended.get(&identity(&sent)) {
-            Some(&(same, stored)) if same == sent && sent.number == last => {
-                Ok(Entry::GivenAgain(stored))
-            }
+            Some(&(same, stored)) if same == sent && sent.number == last => Ok(Entry::GivenAgain {
+                answer: stored,
+                steps: 0,
+            }),
             Some(_) if sent.number == last => Err(12),
             _ if sent.number != last + 1 => Err(11),
             _ if work != Writer::Idle => Err(4),

@@ -5,8 +5,8 @@ use crate::drawn_commands::Sent;
 use crate::reference_command::{start_command, Entry};
 use crate::reference_operations::{finish, put};
 use crate::reference_record::Record;
-use crate::reference_table::fresh;
-use crate::reference_writer::{start_put, WriterStep};
+use crate::reference_table::{fresh, Ending};
+use crate::reference_writer::start_put;
 
 const STARTED: Result<Entry, u32> = Ok(Entry::Started);
 
@@ -44,10 +44,15 @@ impl Panel {
         self.take(&sent.frame())
     }
 
-    fn finish(&mut self) -> WriterStep {
+    fn finish(&mut self) -> Ending {
         let ended = finish(&mut self.record, &mut self.slots);
-        ended.expect("the writer has work").answer
+        ended.expect("the writer has work").ending
     }
+}
+
+/// No step was made for it.
+fn given_again(answer: Option<u32>) -> Result<Entry, u32> {
+    Ok(Entry::GivenAgain { answer, steps: 0 })
 }
 
 pub fn run() {
@@ -102,24 +107,24 @@ fn turns() {
     assert_eq!(panel.send(3, 1, 1, 1), Err(4));
     assert_eq!(panel.send(3, 1, 9, 2), Err(4));
     assert_eq!(panel.send(3, 2, 1, 0), Err(11));
-    assert_eq!(panel.finish(), WriterStep::Changed(5));
-    assert_eq!(panel.send(3, 1, 1, 1), Ok(Entry::GivenAgain(Some(5))));
+    assert_eq!(panel.finish(), Ending::Changed(5));
+    assert_eq!(panel.send(3, 1, 1, 1), given_again(Some(5)));
     assert_eq!(panel.send(3, 1, 9, 1), Err(12));
     assert_eq!(panel.send(3, 1, 1, 2), Err(12));
     assert_eq!(panel.send(3, 3, 1, 1), Err(11));
     assert_eq!(panel.send(3, 2, 1, 2), STARTED);
-    assert_eq!(panel.finish(), WriterStep::Changed(4));
+    assert_eq!(panel.finish(), Ending::Changed(4));
     assert_eq!(panel.send(3, 1, 1, 1), Err(11));
-    assert_eq!(panel.send(3, 2, 1, 2), Ok(Entry::GivenAgain(Some(4))));
+    assert_eq!(panel.send(3, 2, 1, 2), given_again(Some(4)));
 }
 
 /// The stored answer, 11 and 12 come before 4.
 fn others_while_engaged() {
     let mut panel = Panel::new();
     assert_eq!(panel.send(1, 1, 1, 2), STARTED);
-    assert_eq!(panel.finish(), WriterStep::Changed(5));
+    assert_eq!(panel.finish(), Ending::Changed(5));
     assert_eq!(start_put(&mut panel.record, &panel.slots, 9, 6), Ok(()));
-    assert_eq!(panel.send(1, 1, 1, 2), Ok(Entry::GivenAgain(Some(5))));
+    assert_eq!(panel.send(1, 1, 1, 2), given_again(Some(5)));
     assert_eq!(panel.send(1, 1, 1, 0), Err(12));
     assert_eq!(panel.send(1, 3, 1, 2), Err(11));
     assert_eq!(panel.send(1, 2, 1, 2), Err(4));
@@ -130,11 +135,11 @@ fn others_while_engaged() {
 fn unknown_point() {
     let mut panel = Panel::new();
     assert_eq!(panel.send(32, 1, 9, 0), STARTED);
-    assert_eq!(panel.finish(), WriterStep::Unknown);
+    assert_eq!(panel.finish(), Ending::Unknown);
     assert!(put(&mut panel.record, &mut panel.slots, 9, 6).is_ok());
-    assert_eq!(panel.send(32, 1, 9, 0), Ok(Entry::GivenAgain(None)));
+    assert_eq!(panel.send(32, 1, 9, 0), given_again(None));
     assert_eq!(panel.send(32, 2, 9, 0), STARTED);
-    assert_eq!(panel.finish(), WriterStep::Changed(6));
+    assert_eq!(panel.finish(), Ending::Changed(6));
 }
 
 /// Behind 16777215 only the last command can be sent again.
@@ -143,12 +148,12 @@ fn last_number() {
     panel.record.stations[0].number = 16_777_214;
     panel.record.stations[0].point = 1;
     assert_eq!(panel.send(1, 16_777_215, 1, 1), STARTED);
-    assert_eq!(panel.finish(), WriterStep::Changed(5));
+    assert_eq!(panel.finish(), Ending::Changed(5));
     for number in [1, 16_777_214] {
         assert_eq!(panel.send(1, number, 1, 1), Err(11));
     }
     assert_eq!(panel.take(&[0x0F, 1, 0, 0, 0, 0, 0, 0, 1, 1]), Err(11));
     assert_eq!(panel.send(1, 16_777_215, 1, 0), Err(12));
     let again = panel.send(1, 16_777_215, 1, 1);
-    assert_eq!(again, Ok(Entry::GivenAgain(Some(5))));
+    assert_eq!(again, given_again(Some(5)));
 }

@@ -1,5 +1,6 @@
 //! Steps of the writer and of readers in any order, by turns too, against the plain list: document
-//! 01's claim about every list of calls, walks, and the bounds on steps.
+//! 01's claim about every list of calls, walks, the bounds on steps, and the number of steps that each
+//! operation tells, which is counted here from the calls.
 
 use crate::answer_of;
 use crate::drawn_commands::Sent;
@@ -8,11 +9,13 @@ use crate::plain_list::PlainList;
 use crate::random::Random;
 use crate::reference_command;
 use crate::reference_record::{Reader, Record, Writer};
-use crate::reference_table::{fresh, start_lookup, start_walk, step_reader, Refusal, Step};
+use crate::reference_table::{fresh, start_lookup, start_walk, step_reader, Ending, Refusal, Step};
 use crate::reference_turn::{turn, Served};
 use crate::reference_writer::{start_change, start_put, start_removal, step_writer, WriterStep};
 use crate::test_commands::Notes;
+use crate::test_step_counts::bounds;
 use crate::test_walks::{Ended, Walk};
+use std::collections::HashSet;
 
 const PANELS: u32 = 1500;
 const CALLS: u32 = 400;
@@ -21,6 +24,9 @@ const READERS: u32 = 3;
 /// More walks than these must come to their end, and more while the list is altered.
 const WALKS: u32 = 10_000;
 const WALKS_ALTERED: u32 = 5_000;
+
+/// Of each, one must take as many steps as it may.
+const OPERATIONS: [&str; 4] = ["lookup", "put", "change", "removal"];
 
 /// Points and one that is refused, so few that the same one is often looked up and altered.
 const LAST_POINT: u32 = 7;
@@ -42,6 +48,8 @@ struct World {
     walks: Vec<Walk>,
     walks_ended: Ended,
     writer_steps: u32,
+    /// The operations that took as many steps as they may.
+    longest: HashSet<&'static str>,
     /// What the plain list answered when it was fed the writer's operation.
     fed: Option<Answer>,
     commands: Notes,
@@ -51,6 +59,7 @@ struct World {
 pub fn run() -> (u32, Ended) {
     let mut random = Random(3);
     let mut ended = Ended::default();
+    let mut longest = HashSet::new();
     for _ in 0..PANELS {
         let mut world = World::new(random.within(1, 6), random.within(1, 5));
         for _ in 0..CALLS {
@@ -59,7 +68,9 @@ pub fn run() -> (u32, Ended) {
         }
         ended.walks += world.walks_ended.walks;
         ended.altered += world.walks_ended.altered;
+        longest.extend(world.longest);
     }
+    assert_eq!(longest, HashSet::from(OPERATIONS));
     assert!(ended.walks > WALKS && ended.altered > WALKS_ALTERED);
     (PANELS * CALLS, ended)
 }
@@ -76,6 +87,7 @@ impl World {
             walks: vec![Walk::default(); READERS as usize],
             walks_ended: Ended::default(),
             writer_steps: 0,
+            longest: HashSet::new(),
             fed: None,
             commands: Notes::default(),
         }
@@ -100,9 +112,18 @@ impl World {
         assert!(self.record.in_range());
         assert_eq!(self.slots, self.list.slots());
         for (work, lookup) in self.record.readers.iter().zip(&mut self.lookups) {
-            if matches!(work, Reader::LookingUp { .. }) && lookup.steps > 0 {
-                lookup.moments.push(self.list.lookup(lookup.point));
+            if let Reader::LookingUp { steps, .. } = *work {
+                assert_eq!(steps, lookup.steps);
+                if steps > 0 {
+                    lookup.moments.push(self.list.lookup(lookup.point));
+                }
             }
+        }
+        if let Writer::Putting { steps, .. }
+        | Writer::Changing { steps, .. }
+        | Writer::Removing { steps, .. } = self.record.writer
+        {
+            assert_eq!(steps, self.writer_steps);
         }
         for walk in &mut self.walks {
             walk.moment(&self.list);
@@ -167,15 +188,29 @@ impl World {
     fn lookup_stepped(&mut self, reader: u32, answer: Result<Step, Refusal>) {
         let lookup = &mut self.lookups[reader as usize];
         lookup.steps += 1;
-        let answer = match answer {
+        let ended = match answer {
             Ok(Step::Underway) => return,
-            Ok(Step::Found(value)) => Some(value),
-            Ok(Step::Unknown) => None,
+            Ok(Step::Ended(ended)) => ended,
             other => panic!("a lookup's step gave {other:?}"),
         };
+        let value = match ended.ending {
+            Ending::Found(value) => Some(value),
+            Ending::Unknown => None,
+            other => panic!("a lookup ended with {other:?}"),
+        };
         let now = self.list.lookup(lookup.point);
-        assert!(answer == now || lookup.moments.contains(&answer));
-        assert!(lookup.steps <= self.record.k + 1);
+        assert!(value == now || lookup.moments.contains(&value));
+        assert_eq!(ended.steps, lookup.steps);
+        let [bound, ..] = bounds(self.record.k);
+        self.ended_in_time(ended.steps, ("lookup", bound));
+    }
+
+    /// An operation that may take so many steps at most took these.
+    fn ended_in_time(&mut self, steps: u32, (operation, bound): (&'static str, u32)) {
+        assert!(steps <= bound);
+        if steps == bound {
+            self.longest.insert(operation);
+        }
     }
 
     fn start_writer(&mut self, random: &mut Random) {
@@ -205,34 +240,40 @@ impl World {
     }
 
     fn writer_stepped(&mut self, before: &Record, answer: Result<WriterStep, Refusal>) {
-        let answer = answer_of(answer);
-        if before.writer == Writer::Idle {
-            assert_eq!(answer, Some(Err(5)));
-            return;
-        }
+        let ended = match answer {
+            Ok(WriterStep::Underway) => None,
+            Ok(WriterStep::Ended(ended)) => Some(ended),
+            Err(refusal) => {
+                assert_eq!((refusal, before.writer), (Refusal::Idle, Writer::Idle));
+                return;
+            }
+        };
         self.writer_steps += 1;
-        if stores_slot(before) || (answer.is_some() && self.fed.is_none()) {
+        if stores_slot(before) || (ended.is_some() && self.fed.is_none()) {
             assert_eq!(self.fed, None);
             self.fed = Some(feed(&mut self.list, before.writer));
         }
         if stores_slot(before) {
             self.commands.slot_stored();
         }
-        if let Some(answer) = answer {
+        if let Some(ended) = ended {
+            let answer = answer_of(ended.ending);
             assert_eq!(Some(answer), self.fed.take());
-            assert!(self.writer_steps <= bound(before));
+            assert_eq!(ended.steps, self.writer_steps);
+            self.ended_in_time(ended.steps, bound(before));
             self.writer_steps = 0;
             self.commands.operation_ended(answer, &self.record);
         }
     }
 }
 
-/// The most steps that the writer's operation may take.
-fn bound(record: &Record) -> u32 {
+/// The writer's operation, and the most steps that it may take.
+fn bound(record: &Record) -> (&'static str, u32) {
+    let [_, put, change, removal] = bounds(record.k);
     match record.writer {
-        Writer::Idle => 0,
-        Writer::Putting { .. } => 2 * record.k + 2,
-        Writer::Changing { .. } => record.k + 2,
-        Writer::Removing { .. } => record.k + 3,
+        Writer::Idle => panic!("no operation is underway"),
+        Writer::Putting { .. } => ("put", put),
+        Writer::Changing { .. } => ("change", change),
+        Writer::Removing { .. } => ("removal", removal),
     }
 }

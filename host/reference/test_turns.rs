@@ -2,7 +2,7 @@
 
 use crate::reference_operations::put;
 use crate::reference_record::{Reader, Record};
-use crate::reference_table::{fresh, start_lookup, start_walk, step_reader, Refusal, Step};
+use crate::reference_table::{fresh, start_lookup, start_walk, step_reader, Ending, Refusal, Step};
 use crate::reference_turn::{turn, Served};
 use crate::reference_writer::{start_put, step_writer, WriterStep};
 
@@ -137,7 +137,7 @@ fn place_stays() {
     panel.serves(2, 3);
 }
 
-/// 6 and 7 come with the party that they end.
+/// 6 and 7 come with the party that they end, and with its own steps alone.
 fn endings() {
     let mut panel = Panel::new(1, 1);
     assert!(put(&mut panel.record, &mut panel.slots, 1, 5).is_ok());
@@ -151,8 +151,10 @@ fn endings() {
     assert_eq!(panel.turn(), reader(7, Step::LastWord(panel.slots[0])));
     assert_eq!(panel.turn(), reader(15, Step::Underway));
     assert_eq!(panel.turn(), Ok(underway));
-    assert_eq!(panel.turn(), reader(15, Step::Unknown));
-    assert_eq!(panel.turn(), Ok(Served::Writer(WriterStep::NoPerch)));
+    let unknown = Step::Ended(Ending::Unknown.after(2));
+    assert_eq!(panel.turn(), reader(15, unknown));
+    let no_perch = WriterStep::Ended(Ending::NoPerch.after(3));
+    assert_eq!(panel.turn(), Ok(Served::Writer(no_perch)));
     let ended = panel.record;
     assert_eq!(panel.turn(), Err(Refusal::Idle));
     assert_eq!((panel.record, ended.place), (ended, 1));
@@ -167,12 +169,18 @@ fn longest_lookup() {
     panel.begin_lookup(3, 1);
     for _ in 1..17 * 5 {
         let served = panel.turn().expect("all are at work");
-        let ends = matches!(served, Served::Reader { step, .. } if step == Step::Unknown);
+        let ends = matches!(
+            served,
+            Served::Reader {
+                step: Step::Ended(_),
+                ..
+            }
+        );
         assert!(!ends);
     }
     let unknown = Served::Reader {
         reader: 3,
-        step: Step::Unknown,
+        step: Step::Ended(Ending::Unknown.after(5)),
     };
     assert_eq!(panel.turn(), Ok(unknown));
 }

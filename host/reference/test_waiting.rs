@@ -1,11 +1,12 @@
 //! Drawn calls of all seventeen parties, most of them turns: whoever is at work is served by the
-//! seventeenth turn, and a turn leaves what the party's own step leaves, but for the place.
+//! seventeenth turn, a turn leaves what the party's own step leaves, but for the place, and an
+//! operation that ends tells the steps that it made, by turns or not.
 
 use crate::random::Random;
 use crate::reference_record::{Reader, Record, Writer};
-use crate::reference_table::{fresh, start_lookup, start_walk, step_reader, Refusal};
+use crate::reference_table::{fresh, start_lookup, start_walk, step_reader, Refusal, Step};
 use crate::reference_turn::{turn, Served};
-use crate::reference_writer::{start_put, start_removal, step_writer};
+use crate::reference_writer::{start_put, start_removal, step_writer, WriterStep};
 
 const PANELS: u32 = 300;
 const CALLS: u32 = 1000;
@@ -119,8 +120,8 @@ impl World {
     /// A party's own step.
     fn step(&mut self, party: usize) {
         let before = self.record;
-        if own_step(&mut self.record, &mut self.slots, party).is_ok() {
-            self.stepped(&before, party);
+        if let Ok(served) = own_step(&mut self.record, &mut self.slots, party) {
+            self.stepped(&before, party, served);
         }
     }
 
@@ -132,9 +133,9 @@ impl World {
             return;
         };
         let (mut record, mut slots) = (before, self.slots.clone());
-        let own = own_step(&mut record, &mut slots, party);
+        let own = own_step(&mut record, &mut slots, party).expect("the party is at work");
         record.place = (party as u32 + 1) % 17;
-        assert_eq!(turn(&mut self.record, &mut self.slots), own);
+        assert_eq!(turn(&mut self.record, &mut self.slots), Ok(own));
         assert_eq!((self.record, &self.slots), (record, &slots));
         for (other, work) in self.works.iter_mut().enumerate() {
             if is_at_work(&before, other) {
@@ -143,19 +144,23 @@ impl World {
             }
         }
         self.seen.turns += 1;
-        self.stepped(&before, party);
+        self.stepped(&before, party, own);
     }
 
     /// The party has made a step, with which its work may have ended.
-    fn stepped(&mut self, before: &Record, party: usize) {
+    fn stepped(&mut self, before: &Record, party: usize, served: Served) {
         let work = &mut self.works[party];
         work.steps += 1;
         work.waited = 0;
-        if is_at_work(&self.record, party) {
+        let is_walk = party > 0 && matches!(before.readers[party - 1], Reader::Walking { .. });
+        let ends = !is_at_work(&self.record, party);
+        let told = (ends && !is_walk).then_some(work.steps);
+        assert_eq!(steps_told(served), told);
+        if !ends {
             return;
         }
         assert!(work.turns <= 17 * work.steps);
-        if party > 0 && matches!(before.readers[party - 1], Reader::LookingUp { .. }) {
+        if party > 0 && !is_walk {
             assert!(work.turns <= 17 * (before.k + 1));
             self.seen.lookups += 1;
         }
@@ -169,6 +174,18 @@ fn own_step(record: &mut Record, slots: &mut [u64], party: usize) -> Result<Serv
     let reader = party as u32 - 1;
     let step = step_reader(record, slots, reader)?;
     Ok(Served::Reader { reader, step })
+}
+
+/// Only an answer that ends an operation tells them.
+fn steps_told(served: Served) -> Option<u32> {
+    match served {
+        Served::Writer(WriterStep::Ended(ended)) => Some(ended.steps),
+        Served::Reader {
+            step: Step::Ended(ended),
+            ..
+        } => Some(ended.steps),
+        _ => None,
+    }
 }
 
 fn is_at_work(record: &Record, party: usize) -> bool {

@@ -1,7 +1,8 @@
-//! Points in the standard library's hash table, for orientation: it has no slots, indices and reach,
-//! for which 0 stands, and no put is refused for want of a place.
+//! Points in the standard library's hash table, for orientation: it has no slots, indices, reach and
+//! steps, for which 0 stands, and no put is refused for want of a place.
 
-use crate::point_table::{are_sizes, judge, Place, PointTable, Refusal};
+use crate::point_table::{are_sizes, judge, PointTable};
+use crate::reference_table::{Ended, Ending, Refusal};
 use std::collections::HashMap;
 
 pub struct MapTable(HashMap<u32, u32>);
@@ -11,21 +12,24 @@ impl PointTable for MapTable {
         are_sizes(m, k).then(|| MapTable(HashMap::new()))
     }
 
-    fn put(&mut self, point: u32, value: u32) -> Result<Place, Refusal> {
+    fn put(&mut self, point: u32, value: u32) -> Result<Ended, Refusal> {
         judge(point)?;
         self.0.insert(point, value);
-        Ok(Place { slot: 0, index: 0 })
+        Ok(Ending::Put { slot: 0, index: 0 }.after(0))
     }
 
-    fn lookup(&mut self, point: u32) -> Result<u32, Refusal> {
+    fn lookup(&mut self, point: u32) -> Result<Ended, Refusal> {
         judge(point)?;
-        self.0.get(&point).copied().ok_or(Refusal::Unknown)
+        let value = self.0.get(&point);
+        let ending = value.map_or(Ending::Unknown, |&value| Ending::Found(value));
+        Ok(ending.after(0))
     }
 
-    fn remove(&mut self, point: u32) -> Result<u32, Refusal> {
+    fn remove(&mut self, point: u32) -> Result<Ended, Refusal> {
         judge(point)?;
-        let value = self.0.remove(&point).ok_or(Refusal::Unknown);
-        value.map(|_| 0)
+        let value = self.0.remove(&point);
+        let ending = value.map_or(Ending::Unknown, |_| Ending::Removed(0));
+        Ok(ending.after(0))
     }
 
     fn reach(&self) -> u32 {

@@ -5,6 +5,7 @@ use crate::bench_line::Command;
 use crate::bench_workload;
 use crate::point_table::PointTable;
 use crate::random::Random;
+use crate::reference_table::{Ended, Ending};
 use crate::step_table::StepTable;
 use std::collections::HashSet;
 use std::fmt::Write;
@@ -84,7 +85,7 @@ impl Panel {
         let mut stored = distinct_points(&mut Random(1), 2 * asked);
         let absent = stored.split_off(asked);
         let mut table = StepTable::new(m, k).expect("the sizes are in range");
-        stored.retain(|&point| table.put(point, 0).is_ok());
+        stored.retain(|&point| finds_place(&mut table, point));
         Panel {
             m,
             k,
@@ -140,6 +141,11 @@ impl Panel {
         }
         commands
     }
+}
+
+fn finds_place(table: &mut StepTable, point: u32) -> bool {
+    let put = table.put(point, 0);
+    matches!(put, Ok(Ended { ending, .. }) if ending != Ending::NoPerch)
 }
 
 fn put(random: &mut Random, point: u32) -> Command {

@@ -33,7 +33,7 @@ mod random;
 #[allow(dead_code)]
 #[path = "../../reference/plain_list.rs"]
 mod plain_list;
-// Of these, only the hash functions, the words and the ranges are used.
+// Of these, only the hash functions, the words, the ranges and the endings are used.
 #[allow(dead_code)]
 #[path = "../../reference/reference_record.rs"]
 mod reference_record;
@@ -52,16 +52,16 @@ use std::process::ExitCode;
 const GARBAGE: usize = 600;
 const HISTORIES: usize = 1500;
 
-/// Document 01's example.
+/// Document 01's example, with the steps of document 02.
 const EXAMPLE: &str = "8 4\nP 1 5\nP 9 6\nP 17 7\nL 17\nR 9\nL 9\n";
 const EXAMPLE_PRINTED: &str = "\
 panel 8 4
-P 1 0 1
-P 9 2 2
-P 17 3 3
-L 17 7
-R 9 3
-L 9 ! 7
+P 1 0 1 4
+P 9 2 2 6
+P 17 3 3 8
+L 17 7 4
+R 9 3 4
+L 9 ! 7 4
 reach 3 points 2
 ";
 
@@ -120,7 +120,7 @@ fn compare_all(comparison: &mut Comparison) -> Result<Vec<Case>, String> {
 
 fn run() -> Result<(), String> {
     if reference(EXAMPLE.as_bytes()) != EXAMPLE_PRINTED.as_bytes() {
-        return Err("the reference does not print document 01's example".to_string());
+        return Err("the reference does not print the example's output".to_string());
     }
     let mut comparison = Comparison::new(reference)?;
     let missing = compare_all(&mut comparison)?;

@@ -1,6 +1,6 @@
-//! Tests of the reference itself: the writer's steps and the command entry one by one, whole
-//! operations against the direct table and the plain list, the calls of writer, readers and stations
-//! in any order against the plain list, and turns. A failed test ends the program.
+//! Tests of the reference itself: the writer's steps and the command entry one by one, the counts of
+//! steps, whole operations against the direct table and the plain list, the calls of writer, readers
+//! and stations in any order against the plain list, and turns. A failed test ends the program.
 
 #[path = "../../bench/bench_commands.rs"]
 mod bench_commands;
@@ -38,6 +38,8 @@ mod test_entry;
 mod test_histories;
 #[path = "../test_orders.rs"]
 mod test_orders;
+#[path = "../test_step_counts.rs"]
+mod test_step_counts;
 #[path = "../test_steps.rs"]
 mod test_steps;
 #[path = "../test_turns.rs"]
@@ -61,25 +63,25 @@ mod random;
 mod reference_table;
 
 use plain_feeding::Answer;
-use reference_table::Refusal;
-use reference_writer::WriterStep;
+use reference_table::Ending;
 use test_waiting::Seen;
 use test_walks::Ended;
 
-/// What a writer's operation ended with; none if it is underway.
-fn answer_of(step: Result<WriterStep, Refusal>) -> Option<Answer> {
-    match step {
-        Ok(WriterStep::Underway) => None,
-        Ok(WriterStep::Put { slot, index }) => Some(Ok((slot, index))),
-        Ok(WriterStep::Changed(number) | WriterStep::Removed(number)) => Some(Ok((number, 0))),
-        Ok(WriterStep::NoPerch) => Some(Err(6)),
-        Ok(WriterStep::Unknown) => Some(Err(7)),
-        Err(refusal) => Some(Err(refusal as u32)),
+/// What an operation ended with, as the plain list answers it.
+fn answer_of(ending: Ending) -> Answer {
+    match ending {
+        Ending::Put { slot, index } => Ok((slot, index)),
+        Ending::Found(number) | Ending::Changed(number) | Ending::Removed(number) => {
+            Ok((number, 0))
+        }
+        Ending::NoPerch => Err(6),
+        Ending::Unknown => Err(7),
     }
 }
 
 fn main() {
     test_steps::run();
+    test_step_counts::run();
     test_entry::run();
     let commands = test_histories::run();
     let (calls, Ended { walks, altered }) = test_orders::run();
@@ -87,7 +89,7 @@ fn main() {
     let Seen { turns, lookups, .. } = test_waiting::run();
     println!(
         "reference_test: {commands} commands of histories and {calls} calls in any order, \
-         as the plain list has them; {walks} walks to their end, {altered} of them while the list \
+         as the plain list has them and with the number of their steps; {walks} walks to their end, {altered} of them while the list \
          was altered; {turns} turns, in which nobody at work waited for more than 16 and {lookups} \
          lookups ended in time"
     );

@@ -1,6 +1,6 @@
 //! Bench programs to compare the proved one with: the same input, the same output. The argument
 //! chooses the table: `direct` (ordinary code), `steps` (the step machine), or `map` (the standard
-//! library's hash table, whose output has 0 for slot, index and reach).
+//! library's hash table, whose output has 0 for slot, index, reach and steps).
 
 #[path = "../../bench/bench_line.rs"]
 mod bench_line;
@@ -14,7 +14,7 @@ mod map_table;
 mod point_table;
 
 // Walks, changes, commands and disabled points are no part of the bench, and nobody asks here for the
-// steps made.
+// steps of all operations together.
 #[allow(dead_code)]
 #[path = "../../reference/reference_operations.rs"]
 mod reference_operations;

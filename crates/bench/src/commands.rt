@@ -58,8 +58,8 @@ fn wrote(
         }
         Written::Done(finished) => {
             let changes = finished.changes;
-            let ending = finished.ending;
-            let answer = WholeAnswer::Ended(ending);
+            let completion = finished.completion;
+            let answer = WholeAnswer::Ended(completion);
             Done {
                 changes: changes,
                 filled: bench_lines::operation(filled, text, letter, point, answer),

@@ -1,8 +1,8 @@
--- Document 01, "Bench program and values": the printed lines, each as its bytes with the line end.
+-- Document 01, "Bench program and values", and request N2: the printed lines, each as its bytes with the line end.
 use Prim.Native.Nat.{ℕ}
 use mathlib.Core.List.{List, [], _∷_, _++_}
 use Rattle.refusal.specs.Refusals.{codes}
-use Rattle.answers.specs.Answers.{Ending, lookedUp, placed, changed, removed, endedWith, Answer, started, underway, ended, walked, walkedLast, served, givenAgain, gives, refused}
+use Rattle.answers.specs.Answers.{Ending, lookedUp, placed, changed, removed, endedWith, Completion, Answer, started, underway, ended, walked, walkedLast, served, givenAgain, gives, refused}
 use Rattle.text_buffer.specs.Filling.{spaced}
 
 -- the line end, LF
@@ -21,15 +21,19 @@ endingShown (changed value) = spaced value
 endingShown (removed reach) = spaced reach
 endingShown (endedWith n) = refusalShown n
 
--- what follows the point, by the answer; an operation that is carried out whole has ended or was refused
+-- "the bench prints it last on P, L and R lines": the number of steps
+unfoldable pub completionShown : Completion → List ℕ
+completionShown completion = endingShown (completion .ending) ++ spaced (completion .steps)
+
+-- what follows the point, by the answer, "a refused start's excepted"; an operation that is carried out whole has ended or was refused
 unfoldable pub answerShown : Answer → List ℕ
 answerShown started = []
 answerShown underway = []
-answerShown (ended ending) = endingShown ending
+answerShown (ended completion) = completionShown completion
 answerShown (walked word) = []
 answerShown (walkedLast word) = []
 answerShown (served party answer) = []
-answerShown (givenAgain ending) = []
+answerShown (givenAgain completion) = []
 answerShown (gives values) = []
 answerShown (refused n) = refusalShown n
 

@@ -2,9 +2,10 @@
 ghost use mathlib.Core.Path.{_≡_};
 ghost use lib.ListN.{length};
 ghost use Rattle.refusal.specs.Refusals.{numberOf};
-ghost use Rattle.answers.specs.Answers.{paperEnding, paperWhole};
+ghost use Rattle.answers.specs.Answers.{paperEnding, paperCompletion, paperWhole};
 ghost use Rattle.text_buffer.specs.Filling.{filledBy, withBytes, withRoom};
-ghost use Rattle.bench_lines.specs.Printed.{refusalShown, endingShown, operationLine, unreadableLine, panelLine, refusedPanelLine, lastLine};
+ghost use Rattle.bench_lines.specs.Printed.{refusalShown, endingShown, completionShown, operationLine, unreadableLine, panelLine, refusedPanelLine, lastLine};
+use answers::Completion;
 use answers::Ending;
 use answers::WholeAnswer;
 use refusal::Refusal;
@@ -70,6 +71,15 @@ fn ended(filled: usize, out: &mut [u8], ending: Ending) -> usize
     }
 }
 
+// "the bench prints it last on P, L and R lines": the number of steps.
+fn completed(filled: usize, out: &mut [u8], completion: Completion) -> usize
+    ensures { λ r. ⌜ filledBy r (now (out .exit)) ≡ withBytes (filledBy filled (now (out .entry))) (completionShown (paperCompletion completion)) ⌝ }
+{
+    let ending = completion.ending;
+    let shown = ended(filled, out, ending);
+    number(shown, out, completion.steps as u64)
+}
+
 // The line of an operation: its letter, the point, and what it came to.
 pub fn operation(
     filled: usize,
@@ -82,7 +92,7 @@ pub fn operation(
 {
     let named = number(byte(filled, out, letter), out, point as u64);
     match answer {
-        WholeAnswer::Ended(ending) => line_end(ended(named, out, ending), out),
+        WholeAnswer::Ended(completion) => line_end(completed(named, out, completion), out),
         WholeAnswer::Refused(refusal) => line_end(refused(named, out, refusal), out),
     }
 }

@@ -7,13 +7,17 @@ use crate::digest::two_folded;
 use crate::state_digest::command_answer_folded;
 use crate::state_digest::word_folded;
 use answers::CallAnswer;
+use answers::Completion;
 use answers::Ending;
 use answers::StepResult;
 
 pub(crate) fn answer_folded(digest: Digest, answer: CallAnswer) -> Digest {
     match answer {
         CallAnswer::Started => folded(digest, 15),
-        CallAnswer::GivenAgain(stored) => command_answer_folded(folded(digest, 16), stored),
+        CallAnswer::GivenAgain { answer, steps } => folded(
+            command_answer_folded(folded(digest, 16), answer),
+            steps,
+        ),
         CallAnswer::Stepped(result) => result_folded(digest, result),
         CallAnswer::Served { party, result } => {
             result_folded(two_folded(digest, 26, party), result)
@@ -25,10 +29,15 @@ pub(crate) fn answer_folded(digest: Digest, answer: CallAnswer) -> Digest {
 fn result_folded(digest: Digest, result: StepResult) -> Digest {
     match result {
         StepResult::Underway => folded(digest, 17),
-        StepResult::Ended(ending) => ending_folded(digest, ending),
+        StepResult::Ended(completion) => completion_folded(digest, completion),
         StepResult::Walked(word) => word_folded(folded(digest, 24), word),
         StepResult::WalkedLast(word) => word_folded(folded(digest, 25), word),
     }
+}
+
+fn completion_folded(digest: Digest, completion: Completion) -> Digest {
+    let ending = completion.ending;
+    folded(ending_folded(digest, ending), completion.steps)
 }
 
 fn ending_folded(digest: Digest, ending: Ending) -> Digest {

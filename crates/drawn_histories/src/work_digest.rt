@@ -20,7 +20,10 @@ pub(crate) fn reader_work_folded(digest: Digest, work: ReaderWork) -> Digest {
         ReaderWork::Idle => folded(digest, 0),
         ReaderWork::LookingUp(lookup) => {
             let search = lookup.search;
-            search_folded(two_folded(digest, 1, lookup.point), search)
+            folded(
+                search_folded(two_folded(digest, 1, lookup.point), search),
+                lookup.steps,
+            )
         }
         ReaderWork::Walking(walk) => two_folded(digest, 2, walk.next),
     }
@@ -48,7 +51,10 @@ fn place_folded(digest: Digest, place: Place) -> Digest {
 
 fn put_folded(digest: Digest, put: Put) -> Digest {
     let stage = put.stage;
-    put_stage_folded(two_folded(digest, put.point, put.value), stage)
+    folded(
+        put_stage_folded(two_folded(digest, put.point, put.value), stage),
+        put.steps,
+    )
 }
 
 fn put_stage_folded(digest: Digest, stage: PutStage) -> Digest {
@@ -63,10 +69,8 @@ fn put_stage_folded(digest: Digest, stage: PutStage) -> Digest {
 fn change_folded(digest: Digest, change: Change) -> Digest {
     let alteration = change.alteration;
     let stage = change.stage;
-    change_stage_folded(
-        alteration_folded(folded(digest, change.point), alteration),
-        stage,
-    )
+    let altered = alteration_folded(folded(digest, change.point), alteration);
+    folded(change_stage_folded(altered, stage), change.steps)
 }
 
 fn alteration_folded(digest: Digest, alteration: Alteration) -> Digest {
@@ -92,7 +96,10 @@ fn change_stage_folded(digest: Digest, stage: ChangeStage) -> Digest {
 
 fn removal_folded(digest: Digest, removal: Removal) -> Digest {
     let stage = removal.stage;
-    removal_stage_folded(folded(digest, removal.point), stage)
+    folded(
+        removal_stage_folded(folded(digest, removal.point), stage),
+        removal.steps,
+    )
 }
 
 fn removal_stage_folded(digest: Digest, stage: RemovalStage) -> Digest {

@@ -64,15 +64,7 @@ pub fn step_reader(panel: &mut Record, slots: &[u64], reader: u32) -> StepAnswer
     let fits = fits_at(panel, slots.len());
     let at = reader_place(reader);
     let found = panel.readers[at];
-    let next = step_work(
-        fits,
-        reader,
-        found,
-        panel.m,
-        panel.k,
-        panel.reach,
-        slots,
-    );
+    let next = step_work(fits, reader, found, panel.m, panel.k, panel.reach, slots);
     panel.readers[at] = next.reader;
     next.answer
 }

@@ -6,13 +6,14 @@ use Rattle.hash.specs.Position.{z, positionOf}
 use Rattle.slot_words.specs.Taken.{takenSlots}
 use Rattle.record.specs.Parts.{freshRecord, workOf, withWork, withWriter, withReach, numbered, withNumbered, countOf, withCount, withCounts, withReaders}
 use Rattle.slot_words.specs.Points.{validPoint}
-use Rattle.work_ranges.specs.WorkRanges.{searchInRange, lookupInRange, workInRange, putStageInRange, putInRange, removalStageInRange, removalInRange, writerInRange}
+use Rattle.counting.specs.Steps.{stepCounted, lookupCounted, readerCounted, putCounted, removalCounted, writerCounted}
+use Rattle.work_ranges.specs.WorkRanges.{searchInRange, stepsInRange, lookupInRange, workInRange, putStageInRange, putInRange, removalStageInRange, removalInRange, writerInRange}
 use Rattle.record_ranges.specs.Ranges.{all, sizesInRange, countsInRange, readerInRange, readersInRange, stationInRange, stationsInRange, partsInRange, inRange}
 use Rattle.answers.specs.Answers.{unlessRefused}
 use Rattle.plain_list.specs.PlainList.{Each}
 use Rattle.search.specs.Access.{wordRead}
 use Rattle.search.specs.Search.{searchAccess, firstProbe, nextProbe, holdsPoint, probeAdvance, searchAdvance}
-use Rattle.reader_step.specs.Reader.{readerAccess, lookupEnding, lookupEffect, lookupAdvance, readerAdvance, workRefusal as Reader·workRefusal, stepRefusal as Reader·stepRefusal, afterStep as Reader·afterStep, readerRuns, stepReader}
+use Rattle.reader_step.specs.Reader.{readerAccess, lookupEnding, lookupEffect, lookupAdvance, readerAdvance, workRuns, workRefusal as Reader·workRefusal, stepRefusal as Reader·stepRefusal, afterStep as Reader·afterStep, readerRuns, stepReader}
 use Rattle.fresh_panel.specs.FreshPanel.{makeFresh}
 use Rattle.reader_starts.specs.Starts.{lookupWorkRefusal, lookupRefusal, startReader, startLookup}
 use Rattle.effects.specs.Memory.{storeWord, slotStored, accessRead, slotsAfter}
@@ -30,9 +31,9 @@ use Rattle.marked_values.specs.Marked.{Agrees, runLine, run, answersOf, 
 
 pub marked : Each Agrees markedValues
 unfolding both either within outside refuseIf z positionOf takenSlots freshRecord workOf withWork withReaders withWriter withReach numbered withNumbered countOf
-    withCount withCounts validPoint searchInRange lookupInRange workInRange putStageInRange putInRange removalStageInRange removalInRange writerInRange all
+    withCount withCounts validPoint stepCounted lookupCounted readerCounted putCounted removalCounted writerCounted searchInRange stepsInRange lookupInRange workInRange putStageInRange putInRange removalStageInRange removalInRange writerInRange all
     sizesInRange countsInRange readerInRange readersInRange stationInRange stationsInRange partsInRange inRange unlessRefused wordRead searchAccess
-    firstProbe nextProbe holdsPoint probeAdvance searchAdvance readerAccess lookupEnding lookupEffect lookupAdvance readerAdvance Reader·workRefusal Reader·stepRefusal
+    firstProbe nextProbe holdsPoint probeAdvance searchAdvance readerAccess lookupEnding lookupEffect lookupAdvance readerAdvance workRuns Reader·workRefusal Reader·stepRefusal
     Reader·afterStep readerRuns stepReader makeFresh lookupWorkRefusal lookupRefusal startReader startLookup storeWord slotStored accessRead slotsAfter counted uncounted goesOn
     ends updated exceeds putStageAccess putAccess putAt putAnswered putSearched putScanned putTakes putStageAdvance putAdvance removalStageAccess
     removalAccess removalAt removalAnswered removalSearched isLast removalEmpties removalStageAdvance removalAdvance workAccess workAdvance

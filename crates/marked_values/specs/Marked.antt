@@ -7,7 +7,7 @@ use lib.ListN.{replicate}
 use Rattle.hash.specs.Position.{z, positionOf}
 use Rattle.slot_words.specs.Word.{wordOf}
 use Rattle.slot_words.specs.Taken.{takenSlots}
-use Rattle.answers.specs.Answers.{lookedUp, placed, removed, endedWith, Answer, started, ended, refused, Outcome}
+use Rattle.answers.specs.Answers.{Ending, lookedUp, placed, removed, endedWith, completed, Answer, started, ended, refused, Outcome}
 use Rattle.fresh_panel.specs.FreshPanel.{makeFresh}
 use Rattle.whole_operations.specs.Whole.{wholeLookup, wholePut, wholeRemoval}
 use Rattle.frame.specs.declared.Reading.{Reading}
@@ -75,6 +75,10 @@ startsOf point =
     ∷ answerTo (fresh 8 4) (StartRemoval point)
     ∷ []
 
+-- an operation that has ended in as many steps
+abbrev pub took : Ending → ℕ → Answer
+took ending steps = ended (completed ending steps)
+
 -- the table
 unfoldable pub markedValues : List MarkedRow
 markedValues =
@@ -85,19 +89,19 @@ markedValues =
     -- "position 3 of 17 is 3"
     ∷ numbers (positionOf 8 17 3 ∷ []) (3 ∷ [])
     -- "with k = 2 and only point 1 stored, a put of 17 gets 6"
-    ∷ answers (answersOf onlyPoint1 (P 17 7 ∷ [])) (ended (endedWith 6) ∷ [])
+    ∷ answers (answersOf onlyPoint1 (P 17 7 ∷ [])) (took (endedWith 6) 4 ∷ [])
     -- "though seven slots are empty"
     ∷ numbers (onlyPoint1 .slots) (wordOf 1 5 ∷ replicate 7 0)
     -- "m = 1 with one point stored: another point gets 6", here with k = 1
-    ∷ answers (answersOf (fresh 1 1) (P 1 5 ∷ P 2 6 ∷ [])) (ended (placed 0 1) ∷ ended (endedWith 6) ∷ [])
+    ∷ answers (answersOf (fresh 1 1) (P 1 5 ∷ P 2 6 ∷ [])) (took (placed 0 1) 4 ∷ took (endedWith 6) 3 ∷ [])
     -- and with k = 64
-    ∷ answers (answersOf (fresh 1 64) (P 1 5 ∷ P 2 6 ∷ [])) (ended (placed 0 1) ∷ ended (endedWith 6) ∷ [])
+    ∷ answers (answersOf (fresh 1 64) (P 1 5 ∷ P 2 6 ∷ [])) (took (placed 0 1) 4 ∷ took (endedWith 6) 66 ∷ [])
     -- "put of a stored point keeps its slot"
-    ∷ answers (answersOf (fresh 8 4) (P 1 5 ∷ P 1 6 ∷ [])) (ended (placed 0 1) ∷ ended (placed 0 1) ∷ [])
+    ∷ answers (answersOf (fresh 8 4) (P 1 5 ∷ P 1 6 ∷ [])) (took (placed 0 1) 4 ∷ took (placed 0 1) 3 ∷ [])
     -- and holds the new value there
     ∷ numbers (run (fresh 8 4) (P 1 5 ∷ P 1 6 ∷ []) .slots) (wordOf 1 6 ∷ replicate 7 0)
     -- also where its position 1 has become empty
-    ∷ answers (answersOf (fresh 8 4) (P 1 5 ∷ P 9 6 ∷ R 1 ∷ P 9 7 ∷ [])) (ended (placed 0 1) ∷ ended (placed 2 2) ∷ ended (removed 2) ∷ ended (placed 2 2) ∷ [])
+    ∷ answers (answersOf (fresh 8 4) (P 1 5 ∷ P 9 6 ∷ R 1 ∷ P 9 7 ∷ [])) (took (placed 0 1) 4 ∷ took (placed 2 2) 6 ∷ took (removed 2) 3 ∷ took (placed 2 2) 4 ∷ [])
     -- and is then stored once
     ∷ numbers (run (fresh 8 4) (P 1 5 ∷ P 9 6 ∷ R 1 ∷ P 9 7 ∷ []) .slots) (0 ∷ 0 ∷ wordOf 9 7 ∷ replicate 5 0)
     -- "points 0 and 2147483647 get 2"
@@ -107,8 +111,8 @@ markedValues =
     -- "frame 0F 03 00 00 01 00 00 00 09 02 is station 3, number 1, point 9, toggle"; "2 toggle"
     ∷ frame (readFrame (0x0F ∷ 0x03 ∷ 0x00 ∷ 0x00 ∷ 0x01 ∷ 0x00 ∷ 0x00 ∷ 0x00 ∷ 0x09 ∷ 0x02 ∷ []))
     (record { refused = 0; map = 0x0F; fields = record { station = 3; number = 1; point = 9; action = 2; value = 0; refusal = 0 } })
-    -- the sample run: what its lines print behind the point
-    ∷ answers (answersOf (fresh 8 4) sample) (ended (placed 0 1) ∷ ended (placed 2 2) ∷ ended (placed 3 3) ∷ ended (lookedUp 7) ∷ ended (removed 3) ∷ ended (endedWith 7) ∷ [])
+    -- the sample run: what its lines print behind the point, with the steps of request N2
+    ∷ answers (answersOf (fresh 8 4) sample) (took (placed 0 1) 4 ∷ took (placed 2 2) 6 ∷ took (placed 3 3) 8 ∷ took (lookedUp 7) 4 ∷ took (removed 3) 4 ∷ took (endedWith 7) 4 ∷ [])
     -- "reach 3 points 2"
     ∷ numbers (run (fresh 8 4) sample .panel .reach ∷ takenSlots (run (fresh 8 4) sample .slots) ∷ []) (3 ∷ 2 ∷ [])
     -- the generator: "It begins 16807, 282475249, 1622650073, 984943658, 1144108930, 470211272"

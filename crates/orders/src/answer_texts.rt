@@ -1,6 +1,7 @@
 // Answers in document 01's words.
 use crate::output::number;
 use answers::CallAnswer;
+use answers::Completion;
 use answers::Ending;
 use answers::Spot;
 use answers::StepResult;
@@ -15,8 +16,9 @@ use text_buffer::text;
 pub(crate) fn answer_text(filled: usize, out: &mut [u8], answer: CallAnswer) -> usize {
     match answer {
         CallAnswer::Started => text(filled, out, b"started"),
-        CallAnswer::GivenAgain(stored) => {
-            stored_text(text(filled, out, b"given again: "), out, stored)
+        CallAnswer::GivenAgain { answer, steps } => {
+            let given = stored_text(text(filled, out, b"given again: "), out, answer);
+            steps_text(given, out, steps)
         }
         CallAnswer::Stepped(result) => result_text(filled, out, result),
         CallAnswer::Served { party, result } => {
@@ -38,10 +40,20 @@ fn party_text(filled: usize, out: &mut [u8], party: u32) -> usize {
 fn result_text(filled: usize, out: &mut [u8], result: StepResult) -> usize {
     match result {
         StepResult::Underway => text(filled, out, b"underway"),
-        StepResult::Ended(ending) => ending_text(filled, out, ending),
+        StepResult::Ended(completion) => completion_text(filled, out, completion),
         StepResult::Walked(word) => slot_text(filled, out, word),
         StepResult::WalkedLast(word) => slot_text(text(filled, out, b"last: "), out, word),
     }
+}
+
+fn completion_text(filled: usize, out: &mut [u8], completion: Completion) -> usize {
+    let ending = completion.ending;
+    steps_text(ending_text(filled, out, ending), out, completion.steps)
+}
+
+// The number of steps that an operation took.
+fn steps_text(filled: usize, out: &mut [u8], steps: u32) -> usize {
+    number(text(filled, out, b", steps"), out, steps)
 }
 
 fn ending_text(filled: usize, out: &mut [u8], ending: Ending) -> usize {

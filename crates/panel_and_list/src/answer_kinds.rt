@@ -12,7 +12,10 @@ pub(crate) fn has_ended(answer: CallAnswer) -> bool
 {
     match answer {
         CallAnswer::Started => false,
-        CallAnswer::GivenAgain(_) => false,
+        CallAnswer::GivenAgain {
+            answer: _,
+            steps: _,
+        } => false,
         CallAnswer::Stepped(result) => has_ended_by(result),
         CallAnswer::Served { party: _, result } => has_ended_by(result),
         CallAnswer::Refused(_) => false,
@@ -36,7 +39,10 @@ pub(crate) fn is_refused(answer: CallAnswer) -> bool
 {
     match answer {
         CallAnswer::Started => false,
-        CallAnswer::GivenAgain(_) => false,
+        CallAnswer::GivenAgain {
+            answer: _,
+            steps: _,
+        } => false,
         CallAnswer::Stepped(_) => false,
         CallAnswer::Served {
             party: _,
@@ -52,7 +58,10 @@ pub(crate) fn is_started(answer: CallAnswer) -> bool
 {
     match answer {
         CallAnswer::Started => true,
-        CallAnswer::GivenAgain(_) => false,
+        CallAnswer::GivenAgain {
+            answer: _,
+            steps: _,
+        } => false,
         CallAnswer::Stepped(_) => false,
         CallAnswer::Served {
             party: _,
@@ -68,7 +77,10 @@ pub(crate) fn serves_writer(answer: CallAnswer) -> bool
 {
     match answer {
         CallAnswer::Started => false,
-        CallAnswer::GivenAgain(_) => false,
+        CallAnswer::GivenAgain {
+            answer: _,
+            steps: _,
+        } => false,
         CallAnswer::Stepped(_) => false,
         CallAnswer::Served { party, result: _ } => party == 0,
         CallAnswer::Refused(_) => false,

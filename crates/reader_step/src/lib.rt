@@ -186,15 +186,7 @@ pub fn step_judged(fits: bool, panel: Record, slots: &[u64], reader: u32) -> Ste
     let found = Reader {
         work: work_of(panel, reader),
     };
-    let next = step_work(
-        fits,
-        reader,
-        found,
-        panel.m,
-        panel.k,
-        panel.reach,
-        slots,
-    );
+    let next = step_work(fits, reader, found, panel.m, panel.k, panel.reach, slots);
     let after = next.reader;
     let work = after.work;
     let answer = next.answer;

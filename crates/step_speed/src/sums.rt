@@ -34,7 +34,10 @@ pub(crate) fn with_start(sum: u64, answer: StartAnswer) -> u64 {
 fn worth(result: StepResult) -> u64 {
     match result {
         StepResult::Underway => 1,
-        StepResult::Ended(ending) => ending_worth(ending),
+        StepResult::Ended(completion) => {
+            let ending = completion.ending;
+            wrapping_add_u64(ending_worth(ending), completion.steps as u64)
+        }
         StepResult::Walked(word) => value_of(word) as u64,
         StepResult::WalkedLast(word) => value_of(word) as u64,
     }

@@ -6,6 +6,7 @@ use crate::printing::refused;
 use crate::printing::text;
 use crate::printing::word;
 use crate::readers::start_answer;
+use answers::Completion;
 use answers::Ending;
 use answers::StartOutcome;
 use answers::StepAnswer;
@@ -109,7 +110,7 @@ pub(crate) fn step_answer(answer: StepAnswer) {
 fn step_result(result: StepResult) {
     match result {
         StepResult::Underway => text(b" underway"),
-        StepResult::Ended(ending) => ending_shown(ending),
+        StepResult::Ended(completion) => completion_shown(completion),
         StepResult::Walked(read) => {
             text(b" word");
             word(read);
@@ -119,6 +120,13 @@ fn step_result(result: StepResult) {
             word(read);
         }
     }
+}
+
+fn completion_shown(completion: Completion) {
+    let ending = completion.ending;
+    ending_shown(ending);
+    text(b" steps");
+    number(completion.steps);
 }
 
 fn ending_shown(ending: Ending) {

@@ -45,27 +45,32 @@ enum Altered {
     Lookup(u32, u32),
     // the reach that a lookup remembers, and its next index
     Probe(u32, u32),
+    // the steps that a lookup has made
+    LookupSteps(u32),
     Walk(u32),
     // point and index of a put in its second search
     Put(u32, u32),
     PutProbe(u32, u32),
     PutFound(u32),
     PutChosen(u32),
+    PutSteps(u32),
     // point of a change that has not read the reach
     Change(u32),
     ChangeProbe(u32, u32),
     ChangeFound(u32),
     // station, number and action of a command underway
     Command(u32, u32, u32),
+    ChangeSteps(u32),
     // point of a removal about to lower the reach
     Removal(u32),
     RemovalProbe(u32, u32),
     RemovalFound(u32),
+    RemovalSteps(u32),
     // a station with the number, point and action of its last command
     Station(u32, u32, u32, u32),
 }
 
-const CASES: [Altered; 65] = [
+const CASES: [Altered; 73] = [
     Altered::M(8),
     Altered::M(0),
     Altered::M(7),
@@ -93,6 +98,8 @@ const CASES: [Altered; 65] = [
     Altered::Probe(0, 0),
     Altered::Probe(2, 0),
     Altered::Probe(2, 3),
+    Altered::LookupSteps(5),
+    Altered::LookupSteps(6),
     Altered::Walk(7),
     Altered::Walk(8),
     Altered::Put(0, 1),
@@ -108,6 +115,8 @@ const CASES: [Altered; 65] = [
     Altered::PutChosen(0),
     Altered::PutChosen(4),
     Altered::PutChosen(5),
+    Altered::PutSteps(10),
+    Altered::PutSteps(11),
     Altered::Change(0),
     Altered::Change(1),
     Altered::ChangeProbe(2, 3),
@@ -119,12 +128,16 @@ const CASES: [Altered; 65] = [
     Altered::Command(1, 0, 0),
     Altered::Command(1, 16777216, 0),
     Altered::Command(1, 1, 3),
+    Altered::ChangeSteps(6),
+    Altered::ChangeSteps(7),
     Altered::Removal(0),
     Altered::Removal(1),
     Altered::RemovalProbe(0, 1),
     Altered::RemovalFound(0),
     Altered::RemovalFound(1),
     Altered::RemovalFound(5),
+    Altered::RemovalSteps(7),
+    Altered::RemovalSteps(8),
     Altered::Station(1, 16777215, 1, 2),
     Altered::Station(1, 16777216, 1, 2),
     Altered::Station(32, 1, 0, 2),
@@ -134,7 +147,7 @@ const CASES: [Altered; 65] = [
 ];
 
 pub(crate) fn run() {
-    for row in 0..65u32 {
+    for row in 0..73u32 {
         judged(row, CASES[row as usize]);
     }
 }
@@ -159,8 +172,11 @@ fn record_with(altered: Altered) -> Record {
         Altered::Reach(reach) => with_reach(panel, reach),
         Altered::Circle(place) => with_place(panel, place),
         Altered::Count(index, count) => with_count(panel, index, count),
-        Altered::Lookup(reader, point) => with_work(panel, reader, lookup(point, Search::Unread)),
-        Altered::Probe(reach, next) => with_work(panel, 0, lookup(1, probing(reach, next))),
+        Altered::Lookup(reader, point) => {
+            with_work(panel, reader, lookup(point, Search::Unread, 0))
+        }
+        Altered::Probe(reach, next) => with_work(panel, 0, lookup(1, probing(reach, next), 0)),
+        Altered::LookupSteps(steps) => with_work(panel, 0, lookup(1, Search::Unread, steps)),
         Altered::Walk(next) => with_work(panel, 14, ReaderWork::Walking(Walk { next: next })),
         Altered::Station(station, count, point, action) => {
             with_station(panel, station, last(count, point, action))
@@ -176,10 +192,11 @@ fn probing(reach: u32, next: u32) -> Search {
     })
 }
 
-fn lookup(point: u32, search: Search) -> ReaderWork {
+fn lookup(point: u32, search: Search, steps: u32) -> ReaderWork {
     ReaderWork::LookingUp(Lookup {
         point: point,
         search: search,
+        steps: steps,
     })
 }
 
@@ -194,30 +211,34 @@ fn last(count: u32, point: u32, action: u32) -> Station {
 
 fn writer_work(altered: Altered) -> WriterWork {
     match altered {
-        Altered::Put(point, index) => put(point, PutStage::Scanning(index)),
-        Altered::PutProbe(reach, next) => put(1, PutStage::Searching(probing(reach, next))),
-        Altered::PutFound(index) => put(1, PutStage::Found(place(index))),
-        Altered::PutChosen(index) => put(1, PutStage::Chosen(index)),
-        Altered::Change(point) => change(point, masks(), Search::Unread),
-        Altered::ChangeProbe(reach, next) => change(1, masks(), probing(reach, next)),
+        Altered::Put(point, index) => put(point, PutStage::Scanning(index), 0),
+        Altered::PutProbe(reach, next) => put(1, PutStage::Searching(probing(reach, next)), 0),
+        Altered::PutFound(index) => put(1, PutStage::Found(place(index)), 0),
+        Altered::PutChosen(index) => put(1, PutStage::Chosen(index), 0),
+        Altered::PutSteps(steps) => put(1, PutStage::Scanning(1), steps),
+        Altered::Change(point) => change(point, masks(), Search::Unread, 0),
+        Altered::ChangeProbe(reach, next) => change(1, masks(), probing(reach, next), 0),
         Altered::ChangeFound(index) => changed(index),
         Altered::Command(station, count, action) => {
-            change(1, command(station, count, action), Search::Unread)
+            change(1, command(station, count, action), Search::Unread, 0)
         }
-        Altered::Removal(point) => removal(point, RemovalStage::Lowering),
+        Altered::ChangeSteps(steps) => change(1, masks(), Search::Unread, steps),
+        Altered::Removal(point) => removal(point, RemovalStage::Lowering, 0),
         Altered::RemovalProbe(reach, next) => {
-            removal(1, RemovalStage::Searching(probing(reach, next)))
+            removal(1, RemovalStage::Searching(probing(reach, next)), 0)
         }
-        Altered::RemovalFound(index) => removal(1, RemovalStage::Found(place(index))),
+        Altered::RemovalFound(index) => removal(1, RemovalStage::Found(place(index)), 0),
+        Altered::RemovalSteps(steps) => removal(1, RemovalStage::Lowering, steps),
         _ => WriterWork::Idle,
     }
 }
 
-fn put(point: u32, stage: PutStage) -> WriterWork {
+fn put(point: u32, stage: PutStage, steps: u32) -> WriterWork {
     WriterWork::Putting(Put {
         point: point,
         value: 4294967295,
         stage: stage,
+        steps: steps,
     })
 }
 
@@ -243,11 +264,12 @@ fn command(station: u32, count: u32, action: u32) -> Alteration {
     })
 }
 
-fn change(point: u32, alteration: Alteration, search: Search) -> WriterWork {
+fn change(point: u32, alteration: Alteration, search: Search, steps: u32) -> WriterWork {
     WriterWork::Changing(Change {
         point: point,
         alteration: alteration,
         stage: ChangeStage::Searching(search),
+        steps: steps,
     })
 }
 
@@ -256,12 +278,14 @@ fn changed(index: u32) -> WriterWork {
         point: 1,
         alteration: masks(),
         stage: ChangeStage::Found(place(index)),
+        steps: 0,
     })
 }
 
-fn removal(point: u32, stage: RemovalStage) -> WriterWork {
+fn removal(point: u32, stage: RemovalStage, steps: u32) -> WriterWork {
     WriterWork::Removing(Removal {
         point: point,
         stage: stage,
+        steps: steps,
     })
 }

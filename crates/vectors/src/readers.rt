@@ -8,9 +8,13 @@ use answers::StartAnswer;
 use reader_starts::start_lookup;
 use reader_starts::start_walk;
 use reader_step::step_reader;
+use record::Lookup;
+use record::ReaderWork;
 use record::Record;
+use record::Search;
 use record::parts::fresh_record;
 use record::parts::with_reach;
+use record::parts::with_work;
 use slot_words::word::word_of;
 
 pub(crate) fn run() {
@@ -18,6 +22,7 @@ pub(crate) fn run() {
     over(&slots);
     short_of_a_slot();
     nobodys_points();
+    at_its_bound();
     one_slot();
 }
 
@@ -113,6 +118,17 @@ fn nobodys_points() {
 fn no_match(slots: &[u64]) {
     lookup(panel_of(4), slots, 1);
     lookup(panel_of(4), slots, 9);
+}
+
+// A lookup that counts as many steps as it may take before its first: the count stays.
+fn at_its_bound() {
+    let work = ReaderWork::LookingUp(Lookup {
+        point: 17,
+        search: Search::Unread,
+        steps: 5,
+    });
+    text(b"lookup at its bound:");
+    steps(with_work(panel_of(3), 0, work), &stored(), 0, 6);
 }
 
 // A walk over a slot that is all ones.

@@ -1,5 +1,5 @@
-// Records that no history leads to: counts stay at the ends of their ranges, and a step that stores does
-// not look at what is there.
+// Records that no history leads to: counts, of points and of steps, stay at the ends of their ranges, and a
+// step that stores does not look at what is there.
 use crate::operations::altered;
 use crate::operations::finish;
 use crate::operations::panel_over;
@@ -16,6 +16,7 @@ use record::PutStage;
 use record::Record;
 use record::Removal;
 use record::RemovalStage;
+use record::Search;
 use record::WriterWork;
 use record::parts::with_count;
 use record::parts::with_reach;
@@ -30,6 +31,7 @@ fn over(slots: &mut [u64]) {
     counts(slots);
     reach_lowered(slots);
     stores(slots);
+    steps_at_bounds(slots);
 }
 
 fn counts(slots: &mut [u64]) {
@@ -88,6 +90,7 @@ fn putting(panel: Record, stage: PutStage) -> Record {
         point: 9,
         value: 6,
         stage: stage,
+        steps: 0,
     });
     with_writer(panel, work)
 }
@@ -112,6 +115,7 @@ fn changing(panel: Record, place: Place) -> Record {
         point: 9,
         alteration: alteration,
         stage: ChangeStage::Found(place),
+        steps: 0,
     });
     with_writer(panel, work)
 }
@@ -120,6 +124,32 @@ fn removing(panel: Record, place: Place) -> Record {
     let work = WriterWork::Removing(Removal {
         point: 17,
         stage: RemovalStage::Found(place),
+        steps: 0,
     });
     with_writer(panel, work)
+}
+
+// Operations that count as many steps as they may take, and go on: the count stays.
+fn steps_at_bounds(slots: &mut [u64]) {
+    let panel = stored(slots);
+    let put = WriterWork::Putting(Put {
+        point: 9,
+        value: 6,
+        stage: PutStage::Scanning(1),
+        steps: 10,
+    });
+    let change = WriterWork::Changing(Change {
+        point: 9,
+        alteration: Alteration::Given(Masks { keep: 1, flip: 8 }),
+        stage: ChangeStage::Searching(Search::Unread),
+        steps: 6,
+    });
+    let removal = WriterWork::Removing(Removal {
+        point: 9,
+        stage: RemovalStage::Searching(Search::Unread),
+        steps: 7,
+    });
+    let placed = finish(with_writer(panel, put), slots);
+    let changed = finish(with_writer(placed, change), slots);
+    finish(with_writer(changed, removal), slots);
 }

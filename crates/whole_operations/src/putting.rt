@@ -136,21 +136,10 @@ pub fn whole_put(panel: Record, slots: &mut [u64], point: u32, value: u32) -> Wr
                 stage: PutStage::Searching(Search::Unread),
                 steps: found.steps,
             };
-            let ran = steps(
-                panel,
-                slots,
-                put_answered(put, answer),
-                found.steps,
-                budget,
-            );
+            let ran = steps(panel, slots, put_answered(put, answer), found.steps, budget);
             let changes = ran.changes;
             let progress = ran.progress;
-            handed_back(
-                changes,
-                count_of(panel, changes.index),
-                progress,
-                ran.steps,
-            )
+            handed_back(changes, count_of(panel, changes.index), progress, ran.steps)
         }
     }
 }

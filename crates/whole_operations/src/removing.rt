@@ -114,12 +114,7 @@ pub fn whole_removal(panel: Record, slots: &mut [u64], point: u32) -> Written
             );
             let changes = ran.changes;
             let progress = ran.progress;
-            handed_back(
-                changes,
-                count_of(panel, changes.index),
-                progress,
-                ran.steps,
-            )
+            handed_back(changes, count_of(panel, changes.index), progress, ran.steps)
         }
     }
 }

@@ -15,8 +15,8 @@ number-requires c κs = search needs
 enum-known-answer : tie.Need-enum-known-answer
 enum-known-answer c = search needs
 
-ended-requires : tie.Need-ended-requires
-ended-requires c κs = search needs
+completed-requires : tie.Need-completed-requires
+completed-requires c κs = search needs
 
 line-end-requires : tie.Need-line-end-requires
 line-end-requires c κs = search needs
@@ -37,7 +37,7 @@ returns : tie.Need-returns
 unfolding answerShown
 returns c =
     let a = c .before .before .before .before .before .before .before .before .before .before .before .before .before .before .before .before .before .before .before .before .args in
-    operation-printed _ (a .letter) (a .point) _ (a .answer) (sym (c .before .before .before .before .before .before .before .before .before .answer .given .1)) (c .before .before .before .before .before .before .before .before .before .before .before .before .before .before .before .before .before .byte .ensures) (c .before .before .before .before .before .before .before .before .before .before .before .before .before .number .ensures) (c .before .before .before .before .before .before .ended .ensures)
+    operation-printed _ (a .letter) (a .point) _ (a .answer) (sym (c .before .before .before .before .before .before .before .before .before .answer .given .1)) (c .before .before .before .before .before .before .before .before .before .before .before .before .before .before .before .before .before .byte .ensures) (c .before .before .before .before .before .before .before .before .before .before .before .before .before .number .ensures) (c .before .before .before .before .before .before .completed .ensures)
     (c .before .before .line-end .ensures)
 
 same-length-2 : tie.Need-same-length-2
@@ -57,7 +57,7 @@ operation-spec =
     byte-requires
     number-requires
     enum-known-answer
-    ended-requires
+    completed-requires
     line-end-requires
     enum-known-answer-2
     refused-requires

@@ -5,10 +5,10 @@ use Rattle.vectors.proofs.ranges.run.Statement.{statement}
 use Rattle.vectors.proofs.ranges.run.Tie as tie
 
 abbrev Inv-loop : tie.InvT-loop
-Inv-loop row₀ row = row ≤ 65
+Inv-loop row₀ row = row ≤ 73
 
 abbrev μ-loop : tie.MeasureT-loop
-μ-loop row₀ row = 65 - row
+μ-loop row₀ row = 73 - row
 
 loop-holds : tie.Need-loop-holds Inv-loop μ-loop
 loop-holds c = search needs

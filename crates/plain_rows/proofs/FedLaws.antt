@@ -13,11 +13,11 @@ use Rattle.conditions.proofs.ConditionLaws.{both-left, both-right, both-true}
 use Rattle.hash.specs.Position.{positionOf}
 use Rattle.slot_words.specs.Word.{wordOf}
 use Rattle.slot_words.proofs.WordLaws.{word-point, word-value}
-use Rattle.answers.specs.Answers.{Ending, placed, ended, refused, paperWhole}
+use Rattle.answers.specs.Answers.{Ending, placed, refused, paperWhole}
 use Rattle.plain_list.specs.PlainList.{Row, row, Rows, withValue, without, indexOf, Told, tells, addRow}
 use Rattle.plain_rows.specs.declared.Fed.{Fed}
 use Rattle.plain_rows.specs.Rows.{rowsOf, hasRoom, Room, SameFrom, Revalues, Removes}
-use Rattle.plain_rows.specs.Fed.{answered, ifRoom, inSlices, Feeds}
+use Rattle.plain_rows.specs.Fed.{listAnswer, answered, ifRoom, inSlices, Feeds}
 use Rattle.plain_rows.proofs.RowsLaws.{rows-length}
 use Rattle.plain_rows.proofs.StoreLaws.{same-untouched, same-stored, row-stored}
 
@@ -56,7 +56,7 @@ module _ (words places : List ℕ) (count : ℕ) (room : Room words places count
 
 module _ (words places : List ℕ) (count : ℕ) (room : Room words places count) (fed : Fed) (told : Told) where
   -- the slices show what the list was told, so there is room for it
-  pub feeds : (words′ places′ : List ℕ) (count′ : ℕ) (answer : Ending) → Room words places count′ → fed .count ≡ count′ → paperWhole (fed .answer) ≡ ended answer → told ≡ tells (rowsOf words′ places′ count′) answer → SameFrom count′ words words′ → SameFrom count′ places places′ → Feeds words places words′ places′ fed (inSlices words places count told)
+  pub feeds : (words′ places′ : List ℕ) (count′ : ℕ) (answer : Ending) → Room words places count′ → fed .count ≡ count′ → paperWhole (fed .answer) ≡ listAnswer answer → told ≡ tells (rowsOf words′ places′ count′) answer → SameFrom count′ words words′ → SameFrom count′ places places′ → Feeds words places words′ places′ fed (inSlices words places count told)
   feeds words′ places′ count′ answer room′ n a t w p =
       let size : length (told .rows) ≡ count′ = ap (λ (x : Told). length (x .rows)) t ∙ rows-length words′ places′ count′ in
       record {
@@ -66,17 +66,17 @@ module _ (words places : List ℕ) (count : ℕ) (room : Room words places count
       }
 
   -- nothing is stored
-  pub feeds-nothing : (answer : Ending) → fed .count ≡ count → paperWhole (fed .answer) ≡ ended answer → told ≡ tells (rowsOf words places count) answer → Feeds words places words places fed (inSlices words places count told)
+  pub feeds-nothing : (answer : Ending) → fed .count ≡ count → paperWhole (fed .answer) ≡ listAnswer answer → told ≡ tells (rowsOf words places count) answer → Feeds words places words places fed (inSlices words places count told)
   feeds-nothing answer n a t =
       feeds words places count answer room n a t (same-untouched count words) (same-untouched count places)
 
   -- the point's row gets the value
-  pub feeds-value : (words′ : List ℕ) (point value : ℕ) (answer : Ending) → Revalues words words′ count point value → fed .count ≡ count → paperWhole (fed .answer) ≡ ended answer → told ≡ tells (withValue point value (rowsOf words places count)) answer → Feeds words places words′ places fed (inSlices words places count told)
+  pub feeds-value : (words′ : List ℕ) (point value : ℕ) (answer : Ending) → Revalues words words′ count point value → fed .count ≡ count → paperWhole (fed .answer) ≡ listAnswer answer → told ≡ tells (withValue point value (rowsOf words places count)) answer → Feeds words places words′ places fed (inSlices words places count told)
   feeds-value words′ point value answer r n a t =
       feeds words′ places count answer room n a (t ∙ ap (λ (rows : Rows). tells rows answer) (sym (r .shown places))) (r .words-stay) (same-untouched count places)
 
   -- a row is added
-  pub feeds-row : (point value place : ℕ) (answer : Ending) → value < 4294967296 → Room words places (count + 1) → fed .count ≡ count + 1 → paperWhole (fed .answer) ≡ ended answer → told ≡ tells (row point value place ∷ rowsOf words places count) answer → Feeds words places (set words count (wordOf point value)) (set places count place) fed (inSlices words places count told)
+  pub feeds-row : (point value place : ℕ) (answer : Ending) → value < 4294967296 → Room words places (count + 1) → fed .count ≡ count + 1 → paperWhole (fed .answer) ≡ listAnswer answer → told ≡ tells (row point value place ∷ rowsOf words places count) answer → Feeds words places (set words count (wordOf point value)) (set places count place) fed (inSlices words places count told)
   feeds-row point value place answer fits room′ n a t =
       let word = wordOf point value in
       let stored = row-stored words places count word place (omega (arith, room′ .in-words)) (omega (arith, room′ .in-places)) in
@@ -86,7 +86,7 @@ module _ (words places : List ℕ) (count : ℕ) (room : Room words places count
       (same-stored places places count place (same-untouched count places))
 
   -- the row goes
-  pub feeds-without : (words′ places′ : List ℕ) (left point : ℕ) (answer : Ending) → Removes words places words′ places′ count left point → fed .count ≡ left → paperWhole (fed .answer) ≡ ended answer → told ≡ tells (without point (rowsOf words places count)) answer → Feeds words places words′ places′ fed (inSlices words places count told)
+  pub feeds-without : (words′ places′ : List ℕ) (left point : ℕ) (answer : Ending) → Removes words places words′ places′ count left point → fed .count ≡ left → paperWhole (fed .answer) ≡ listAnswer answer → told ≡ tells (without point (rowsOf words places count)) answer → Feeds words places words′ places′ fed (inSlices words places count told)
   feeds-without words′ places′ left point answer r n a t =
       let room′ : Room words places left = record { in-words = omega (arith, r .fewer, room .in-words); in-places = omega (arith, r .fewer, room .in-places) } in
       feeds words′ places′ left answer room′ n a (t ∙ ap (λ (rows : Rows). tells rows answer) (sym (r .shown))) (r .words-stay) (r .places-stay)

@@ -5,7 +5,7 @@ use mathlib.Core.List.{List}
 use mathlib.Core.Path.{_≡_}
 use lib.ListN.{length}
 use Rattle.conditions.specs.Conditions.{both}
-use Rattle.answers.specs.Answers.{Answer, ended, refused, paperWhole}
+use Rattle.answers.specs.Answers.{Ending, completed, Answer, ended, refused, paperWhole}
 use Rattle.plain_list.specs.PlainList.{Rows, Told, Operation, nothing, put, change, removal, feed}
 use Rattle.plain_rows.specs.declared.Operation.{Operation as OperationFed}
 use Rattle.plain_rows.specs.declared.Operation.the-variants.{Nothing, Put, Change, Removal}
@@ -28,9 +28,13 @@ pub record Feeding : Type 0 where
 abbrev pub feeding : Rows → Answer → Feeding
 feeding rows answer = record { rows = rows; answer = answer }
 
+-- the list's answer: it takes no step
+abbrev pub listAnswer : Ending → Answer
+listAnswer ending = ended (completed ending 0)
+
 -- what the list became and what it told
 abbrev pub answered : Told → Feeding
-answered told = feeding (told .rows) (ended (told .answer))
+answered told = feeding (told .rows) (listAnswer (told .answer))
 
 -- what the list was told if there is room for it; else refusal 1, "slots lent ≠ m", with the rows as they were
 unfoldable pub ifRoom : Bool → Rows → Told → Feeding

@@ -1,10 +1,10 @@
 // What each operation makes of the rows, and what the list answers. The caller has judged that the
 // slices hold the rows.
 ghost use mathlib.Core.Path.{_≡_};
-ghost use Rattle.answers.specs.Answers.{placed as placedAt, endedWith, ended, refused, paperWhole};
+ghost use Rattle.answers.specs.Answers.{placed as placedAt, endedWith, refused, paperEnding, paperWhole};
 ghost use Rattle.plain_list.specs.PlainList.{indexOf, addRow, putRow, changeRow, removeRow};
 ghost use Rattle.plain_rows.specs.Rows.{rowsOf, Room};
-ghost use Rattle.plain_rows.specs.Fed.{inSlices, Feeds};
+ghost use Rattle.plain_rows.specs.Fed.{listAnswer, inSlices, Feeds};
 use crate::Fed;
 use crate::indices::first_free;
 use crate::indices::index_of;
@@ -13,6 +13,7 @@ use crate::rows::Entry;
 use crate::rows::entry_of;
 use crate::rows::with_value;
 use crate::rows::without;
+use answers::Completion;
 use answers::Ending;
 use answers::Spot;
 use answers::WholeAnswer;
@@ -20,6 +21,16 @@ use conditions::both_hold;
 use hash::position;
 use refusal::Refusal;
 use slot_words::word::word_of;
+
+// What the list answers: it takes no step.
+fn list_answer(ending: Ending) -> WholeAnswer
+    ensures { λ r. ⌜ paperWhole r ≡ listAnswer (paperEnding ending) ⌝ }
+{
+    WholeAnswer::Ended(Completion {
+        ending: ending,
+        steps: 0,
+    })
+}
 
 // A slice is too short: as many rows as before, and refusal 1.
 pub(crate) fn misfit(count: usize) -> Fed
@@ -33,21 +44,21 @@ pub(crate) fn misfit(count: usize) -> Fed
 
 // No row of the point: as many rows as before, and refusal 7.
 pub(crate) fn unknown(count: usize) -> Fed
-    ensures { λ r. ⌜ (r .count ≡ count) × (paperWhole (r .answer) ≡ ended (endedWith 7)) ⌝ }
+    ensures { λ r. ⌜ (r .count ≡ count) × (paperWhole (r .answer) ≡ listAnswer (endedWith 7)) ⌝ }
 {
     Fed {
         count: count,
-        answer: WholeAnswer::Ended(Ending::Unknown),
+        answer: list_answer(Ending::Unknown),
     }
 }
 
 // The point has its row at the place: `count` rows now, and the place with its index.
 fn placed(count: usize, m: u32, k: u32, point: u32, place: u32) -> Fed
-    ensures { λ r. ⌜ (r .count ≡ count) × (paperWhole (r .answer) ≡ ended (placedAt place (indexOf m k point place))) ⌝ }
+    ensures { λ r. ⌜ (r .count ≡ count) × (paperWhole (r .answer) ≡ listAnswer (placedAt place (indexOf m k point place))) ⌝ }
 {
     Fed {
         count: count,
-        answer: WholeAnswer::Ended(Ending::Placed(Spot {
+        answer: list_answer(Ending::Placed(Spot {
             slot: place,
             index: index_of(m, k, point, place),
         })),
@@ -95,7 +106,7 @@ fn add_row(
     if index == 0 {
         return Fed {
             count: count,
-            answer: WholeAnswer::Ended(Ending::NoPerch),
+            answer: list_answer(Ending::NoPerch),
         };
     }
     if !both_hold(count < words.len(), count < places.len()) {
@@ -125,7 +136,7 @@ pub(crate) fn change_row(
             with_value(words, count, point, new);
             Fed {
                 count: count,
-                answer: WholeAnswer::Ended(Ending::Changed(new)),
+                answer: list_answer(Ending::Changed(new)),
             }
         }
     }
@@ -149,7 +160,7 @@ pub(crate) fn remove_row(
             let reach = largest_index(words, places, left, m, k);
             Fed {
                 count: left,
-                answer: WholeAnswer::Ended(Ending::Removed(reach)),
+                answer: list_answer(Ending::Removed(reach)),
             }
         }
     }

@@ -11,12 +11,15 @@ use Rattle.plain_rows.proofs.FedLaws.{row-room, feeds-nothing, feeds-ro
 use Rattle.plain_rows.proofs.operations.add_row.Statement.{statement}
 use Rattle.plain_rows.proofs.operations.add_row.Tie as tie
 
+list-answer-requires : tie.Need-list-answer-requires
+list-answer-requires c κs = search needs
+
 returns : tie.Need-returns
 unfolding addRow
 returns c =
-    let start = c .before .before .before in
+    let start = c .before .before .before .before in
     let a = start .args in
-    feeds-nothing (now (a .words)) (now (a .places)) (a .count) (start .pre) _ _ (endedWith 6) refl refl (rw (c .if1 .taken))
+    feeds-nothing (now (a .words)) (now (a .places)) (a .count) (start .pre) _ _ (endedWith 6) refl (c .list-answer .ensures) (rw (c .before .if1 .taken))
 
 both-hold-requires : tie.Need-both-hold-requires
 both-hold-requires c κs = search needs
@@ -84,6 +87,7 @@ pub add-row-spec : {M : Type 1} → statement M
 add-row-spec =
     tie.close
     (tie.spec
+    list-answer-requires
     returns
     both-hold-requires
     misfit-requires

@@ -25,6 +25,9 @@ enum-known-value c = search needs
 with-value-requires : tie.Need-with-value-requires
 with-value-requires c κs = search needs
 
+list-answer-requires : tie.Need-list-answer-requires
+list-answer-requires c κs = search needs
+
 same-length : tie.Need-same-length
 same-length c = search needs
 
@@ -51,17 +54,17 @@ same-length-4 c = search needs
 returns-2 : tie.Need-returns-2
 unfolding changeRow changeEntry
 returns-2 c =
-    let start = c .before .before .before .before .before .before .before .before .before .before .before .before in
+    let start = c .before .before .before .before .before .before .before .before .before .before .before .before .before in
     let a = start .args in
     let rows = rowsOf (now (a .words)) (now (a .places)) (a .count) in
-    let found = c .before .before .before .before .before .value .given in
-    let searched = c .before .before .before .before .before .before .before .entry-of in
+    let found = c .before .before .before .before .before .before .value .given in
+    let searched = c .before .before .before .before .before .before .before .before .entry-of in
     let entry : entryRead (searched .result) ≡ entryOf (a .point) rows = searched .ensures in
     let some : entryOf (a .point) rows ≡ present (found .0 .0) (found .0 .1 .0) = sym entry ∙ ap entryRead (found .1) in
     let new = bitXor (bitAnd (found .0 .0) (a .keep)) (a .flip) in
     let told : changeRow (a .point) (a .keep) (a .flip) rows ≡ tells (withValue (a .point) new rows) (changed new) = rw some in
-    let stored = c .before .before .with-value in
-    feeds-value (now (a .words)) (now (a .places)) (a .count) (start .pre) _ _ (stored .last .0) (a .point) new (changed new) (stored .ensures) refl refl told
+    let stored = c .before .before .before .with-value in
+    feeds-value (now (a .words)) (now (a .places)) (a .count) (start .pre) _ _ (stored .last .0) (a .point) new (changed new) (stored .ensures) refl (c .list-answer .ensures) told
 
 pub change-row-spec : {M : Type 1} → statement M
 change-row-spec =
@@ -72,6 +75,7 @@ change-row-spec =
     unknown-requires
     enum-known-value
     with-value-requires
+    list-answer-requires
     same-length
     same-length-2
     returns

@@ -3,9 +3,10 @@ use Prim.Native.Nat.{ℕ}
 use mathlib.Core.Path.{_≡_, _∙_, refl, sym, ap}
 use borrow.Author.Needs.{needs}
 use denote.Ref.{now}
-use Rattle.answers.specs.Answers.{removed, endedWith, ended}
+use Rattle.answers.specs.Answers.{removed, endedWith}
 use Rattle.plain_list.specs.PlainList.{absent, present, entryOf, without, largestIndex, tells, removeEntry, removeRow}
 use Rattle.plain_rows.specs.Rows.{rowsOf, entryRead}
+use Rattle.plain_rows.specs.Fed.{listAnswer}
 use Rattle.plain_rows.proofs.FedLaws.{feeds-nothing, feeds-without}
 use Rattle.plain_rows.proofs.operations.remove_row.Statement.{statement}
 use Rattle.plain_rows.proofs.operations.remove_row.Tie as tie
@@ -27,6 +28,9 @@ without-requires c κs = search needs
 
 largest-index-requires : tie.Need-largest-index-requires
 largest-index-requires c κs = search needs
+
+list-answer-requires : tie.Need-list-answer-requires
+list-answer-requires c κs = search needs
 
 same-length : tie.Need-same-length
 same-length c = search needs
@@ -54,19 +58,19 @@ same-length-4 c = search needs
 returns-2 : tie.Need-returns-2
 unfolding removeRow removeEntry
 returns-2 c =
-    let start = c .before .before .before .before .before .before .before .before .before .before .before .before .before .before .before .before .before in
+    let start = c .before .before .before .before .before .before .before .before .before .before .before .before .before .before .before .before .before .before in
     let a = start .args in
     let rows = rowsOf (now (a .words)) (now (a .places)) (a .count) in
-    let found = c .before .before .before .before .before .before .before .before .before .before .enum-told2 .given in
-    let searched = c .before .before .before .before .before .before .before .before .before .before .before .before .entry-of in
+    let found = c .before .before .before .before .before .before .before .before .before .before .before .enum-told2 .given in
+    let searched = c .before .before .before .before .before .before .before .before .before .before .before .before .before .entry-of in
     let entry : entryRead (searched .result) ≡ entryOf (a .point) rows = searched .ensures in
     let some : entryOf (a .point) rows ≡ present (found .0 .0) (found .0 .1 .0) = sym entry ∙ ap entryRead (found .1) in
-    let removal = c .before .before .before .before .before .before .before .without in
+    let removal = c .before .before .before .before .before .before .before .before .without in
     let left = without (a .point) rows in
     let told : removeRow (a .m) (a .k) (a .point) rows ≡ tells left (removed (largestIndex (a .m) (a .k) left)) = rw some in
     let shown : rowsOf (removal .last .0) (removal .last .1 .0) (removal .result) ≡ left = removal .ensures .shown in
-    let largest : c .largest-index .result ≡ largestIndex (a .m) (a .k) left = rw (← shown) (c .largest-index .ensures) in
-    feeds-without (now (a .words)) (now (a .places)) (a .count) (start .pre) _ _ (removal .last .0) (removal .last .1 .0) (removal .result) (a .point) (removed (largestIndex (a .m) (a .k) left)) (removal .ensures) refl (ap (λ (i : ℕ). ended (removed i)) largest) told
+    let largest : c .before .largest-index .result ≡ largestIndex (a .m) (a .k) left = rw (← shown) (c .before .largest-index .ensures) in
+    feeds-without (now (a .words)) (now (a .places)) (a .count) (start .pre) _ _ (removal .last .0) (removal .last .1 .0) (removal .result) (a .point) (removed (largestIndex (a .m) (a .k) left)) (removal .ensures) refl (c .list-answer .ensures ∙ ap (λ (i : ℕ). listAnswer (removed i)) largest) told
 
 pub remove-row-spec : {M : Type 1} → statement M
 remove-row-spec =
@@ -78,6 +82,7 @@ remove-row-spec =
     enum-told-2
     without-requires
     largest-index-requires
+    list-answer-requires
     same-length
     same-length-2
     returns

@@ -132,24 +132,40 @@ fn removing(panel: Record, place: Place) -> Record {
 // Operations that count as many steps as they may take, and go on: the count stays.
 fn steps_at_bounds(slots: &mut [u64]) {
     let panel = stored(slots);
-    let put = WriterWork::Putting(Put {
+    let placed = finish(put_at_bound(panel), slots);
+    more_at_bounds(placed, slots);
+}
+
+fn more_at_bounds(panel: Record, slots: &mut [u64]) {
+    let changed = finish(change_at_bound(panel), slots);
+    finish(removal_at_bound(changed), slots);
+}
+
+fn put_at_bound(panel: Record) -> Record {
+    let work = WriterWork::Putting(Put {
         point: 9,
         value: 6,
         stage: PutStage::Scanning(1),
         steps: 10,
     });
-    let change = WriterWork::Changing(Change {
+    with_writer(panel, work)
+}
+
+fn change_at_bound(panel: Record) -> Record {
+    let work = WriterWork::Changing(Change {
         point: 9,
         alteration: Alteration::Given(Masks { keep: 1, flip: 8 }),
         stage: ChangeStage::Searching(Search::Unread),
         steps: 6,
     });
-    let removal = WriterWork::Removing(Removal {
+    with_writer(panel, work)
+}
+
+fn removal_at_bound(panel: Record) -> Record {
+    let work = WriterWork::Removing(Removal {
         point: 9,
         stage: RemovalStage::Searching(Search::Unread),
         steps: 7,
     });
-    let placed = finish(with_writer(panel, put), slots);
-    let changed = finish(with_writer(placed, change), slots);
-    finish(with_writer(changed, removal), slots);
+    with_writer(panel, work)
 }

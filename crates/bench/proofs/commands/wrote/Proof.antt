@@ -40,8 +40,8 @@ same-length-2 c = search needs
 
 returns-2 : tie.Need-returns-2
 returns-2 c =
-    let a = c .before .before .before .before .before .before .before .before .before .args in
-    let told = sym (c .before .before .before .before .before .before .written2 .given .1) in
+    let a = c .before .before .before .before .before .before .before .before .before .before .args in
+    let told = sym (c .before .before .before .before .before .before .before .written2 .given .1) in
     (λ panel e. ap (recordAfter panel) told, c .before .before .operation2 .ensures ∙ ap (withBytes _) (ap (λ (w : Written). operationLine (a .letter) (a .point) (paperWritten w)) told))
 
 pub wrote-spec : {M : Type 1} → statement M

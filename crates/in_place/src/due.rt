@@ -6,14 +6,13 @@ ghost use Rattle.record_ranges.specs.Ranges.{readerInRange, readersInRange, inR
 ghost use Rattle.circle.specs.Marks.{markedWith, markedBehind, dueBy};
 use crate::ranges::are_stations_in_range;
 use circle::party_due;
-use conditions::both_hold;
 use record::Reader;
 use record::Record;
 use record::idle::is_reader_idle;
 use record_ranges::are_counts_in_range;
 use record_ranges::are_parts_in_range;
+use record_ranges::reader_joined;
 use std::num::wrapping_add_u32;
-use work_ranges::is_work_in_range;
 
 // What is seen of the readers so far: whether they are in range, and the marks of who has work.
 pub(crate) struct Seen {
@@ -34,7 +33,7 @@ fn reader_seen(before: Seen, reader: Reader, m: u32, k: u32) -> Seen
         };
     }
     Seen {
-        fit: both_hold(before.fit, is_work_in_range(work, m, k)),
+        fit: reader_joined(before.fit, reader, m, k),
         marks: wrapping_add_u32(twice, 1),
     }
 }

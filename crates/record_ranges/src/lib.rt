@@ -8,7 +8,6 @@ use record::Reader;
 use record::Record;
 use record::Station;
 use record::Writer;
-use record::idle::is_reader_idle;
 use slot_words::points::is_valid_point;
 use work_ranges::is_work_in_range;
 use work_ranges::is_writer_in_range;
@@ -84,18 +83,18 @@ pub fn are_sizes_in_range(m: u32, k: u32, lent: usize) -> bool
 }
 
 // Whether what was tested before and this reader are in range: an iteration of a loop over readers behind a
-// reference, which no function by value has. Most readers have no work, and leave nothing to test.
+// reference, which no function by value has. It returns early where both conditions could be joined, since then
+// the compiler unrolls the loop.
 pub fn reader_joined(before: bool, reader: Reader, m: u32, k: u32) -> bool
     ensures { λ r. ⌜ r ≡ both before (readerInRange m k reader) ⌝ }
 {
-    let work = reader.work;
-    if is_reader_idle(work) {
-        return before;
+    if !before {
+        return false;
     }
-    both_hold(before, is_work_in_range(work, m, k))
+    is_reader_in_range(reader, m, k)
 }
 
-// The same of a station.
+// The same of a station. Most have sent no command, and leave nothing to test.
 pub fn station_joined(before: bool, station: Station) -> bool
     ensures { λ r. ⌜ r ≡ both before (stationInRange station) ⌝ }
 {

@@ -1,4 +1,4 @@
--- `in_place::due::reader_seen` meets its contract: a reader without work is in range and has no mark, and else the two tests are joined and it has one.
+-- `in_place::due::reader_seen` meets its contract: a reader without work is in range and has no mark, and else its range joins those before and it has one.
 use mathlib.Core.Path.{_∙_, sym}
 use native.Mathlib.Omega.{arith}
 use borrow.Author.Needs.{needs}
@@ -22,20 +22,17 @@ returns c =
     let idle = sym (c .before .is-reader-idle .ensures) ∙ c .if1 .taken in
     (sym (both-with (a .before .fit) _ (idle-in-range (a .m) (a .k) (a .reader .work) idle)), rw idle (omega arith))
 
-is-work-in-range-requires : tie.Need-is-work-in-range-requires
-is-work-in-range-requires c κs = search needs
-
-both-hold-requires : tie.Need-both-hold-requires
-both-hold-requires c κs = search needs
+reader-joined-requires : tie.Need-reader-joined-requires
+reader-joined-requires c κs = search needs
 
 wrapping-add-u32-requires-2 : tie.Need-wrapping-add-u32-requires-2
 wrapping-add-u32-requires-2 c κs = search needs
 
 returns-2 : tie.Need-returns-2
-unfolding readerInRange markedWith
+unfolding markedWith
 returns-2 c =
-    let busy = sym (c .before .before .before .before .is-reader-idle .ensures) ∙ c .before .before .before .if1 .left in
-    (cc, rw busy (omega arith))
+    let busy = sym (c .before .before .before .is-reader-idle .ensures) ∙ c .before .before .if1 .left in
+    (c .before .reader-joined .ensures, rw busy (omega arith))
 
 pub reader-seen-spec : {M : Type 1} → statement M
 reader-seen-spec =
@@ -44,7 +41,6 @@ reader-seen-spec =
     wrapping-add-u32-requires
     is-reader-idle-requires
     returns
-    is-work-in-range-requires
-    both-hold-requires
+    reader-joined-requires
     wrapping-add-u32-requires-2
     returns-2)

@@ -1,5 +1,5 @@
 -- Laws of the steps counted: the count stays within the bound, and below the bound it grows by one. Counting a step leaves who is idle.
-use Prim.Native.Nat.{ℕ, _+_, _≤_, _<_, min}
+use Prim.Native.Nat.{ℕ, _+_, _≤_, _<_}
 use mathlib.Core.Path.{_≡_, refl}
 use native.Mathlib.Omega.{arith}
 use Rattle.record.specs.declared.ReaderWork.{ReaderWork}

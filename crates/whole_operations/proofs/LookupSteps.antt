@@ -1,24 +1,22 @@
 -- Request N2: "a lookup that finds its point on position i while nothing else moves says i + 1"; one that does not find it says the reach + 1.
-use Prim.Native.Nat.{ℕ, zero, suc, _+_, _-_, _≤_, _<_}
+use Prim.Native.Nat.{ℕ, zero, suc, _+_, _≤_, _<_}
 use mathlib.Core.Bool.{Bool, true, false, cond}
 use mathlib.Core.List.{List}
-use mathlib.Core.Logic.{_⊎_, inl, inr, _≢_}
-use mathlib.Core.Path.{_≡_, refl, sym, ap, subst}
+use mathlib.Core.Logic.{_≢_}
+use mathlib.Core.Path.{_≡_, refl, sym, subst}
 use native.Mathlib.Omega.{arith}
-use native.Mathlib.Decide.{ℕ-discrete}
-use borrow.Author.Tests.{eqb-true, eqb-false, ltb-true, ltb-false}
+use borrow.Author.Tests.{eqb-true, eqb-false, ltb-false}
 use lib.Dec.{eqb, ltb}
 use lib.ListN.{length}
 use Rattle.slot_words.specs.Word.{pointOf, valueOf}
 use Rattle.record.specs.declared.Record.{Record}
-use Rattle.record.specs.declared.Search.{Search}
 use Rattle.record.specs.declared.Search.the-variants.{Unread, Probing}
 use Rattle.search.specs.declared.Searched.{Searched}
 use Rattle.search.specs.declared.Searched.the-variants.{Going, Answered}
 use Rattle.search.specs.declared.SearchAnswer.the-variants.{Found, Unknown}
 use Rattle.search.specs.Access.{wordRead}
 use Rattle.search.specs.Search.{searchAccess, firstProbe, nextProbe, holdsPoint, probeAdvance, searchAdvance}
-use Rattle.answers.specs.Answers.{completed, Answer, ended, Outcome}
+use Rattle.answers.specs.Answers.{completed, ended, Outcome}
 use Rattle.reader_step.specs.Reader.{lookupEnding}
 use Rattle.reader_starts.specs.Starts.{lookupRefusal}
 use Rattle.whole_operations.specs.declared.searching.SearchEnd.{SearchEnd}

@@ -15,7 +15,7 @@ use Rattle.counting.specs.declared.steps.OperationKind.{OperationKind}
 use Rattle.counting.specs.declared.steps.OperationKind.the-variants.{Lookup, Put, Change, Removal}
 use Rattle.counting.specs.Steps.{stepBound, stepCounted, lookupCounted, readerCounted, putCounted, changeCounted, removalCounted, writerCounted}
 use Rattle.counting.proofs.StepLaws.{counted-within}
-use Rattle.work_ranges.specs.WorkRanges.{searchInRange, stepsInRange, lookupInRange, workInRange, putStageInRange, putInRange, alterationInRange, changeStageInRange, changeInRange, removalStageInRange, removalInRange, writerInRange}
+use Rattle.work_ranges.specs.WorkRanges.{stepsInRange, lookupInRange, workInRange, putInRange, changeInRange, removalInRange, writerInRange}
 
 -- an operation that begins has made no step
 pub none-made : (kind : OperationKind) (k : ℕ) → stepsInRange kind k 0 ≡ true

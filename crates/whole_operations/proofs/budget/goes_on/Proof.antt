@@ -1,5 +1,4 @@
 -- `whole_operations::budget::goes_on` meets its contract, case by case, whatever the count.
-use mathlib.Core.Path.{refl}
 use borrow.Author.Needs.{needs}
 use Rattle.whole_operations.proofs.budget.goes_on.Statement.{statement}
 use Rattle.whole_operations.proofs.budget.goes_on.Tie as tie

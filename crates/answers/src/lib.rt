@@ -122,22 +122,23 @@ pub struct EntryOutcome {
     pub answer: EntryAnswer,
 }
 
-// What a step leaves.
+// What a step leaves. An answer that holds a word lies in front of the record: behind it there may be
+// padding between the two, with which the compiler copies the record more often.
 pub struct StepOutcome {
-    pub panel: Record,
     pub answer: StepAnswer,
+    pub panel: Record,
 }
 
 // What a turn leaves.
 pub struct TurnOutcome {
-    pub panel: Record,
     pub answer: TurnAnswer,
+    pub panel: Record,
 }
 
 // What any call of a list leaves.
 pub struct CallOutcome {
-    pub panel: Record,
     pub answer: CallAnswer,
+    pub panel: Record,
 }
 
 // What `fresh` leaves.

@@ -45,6 +45,10 @@ fields T N = D.field (T .type) ∷ E.field (N .type) ∷ []
 abbrev values : (T : State) (N : Answer) → T .type .D → N .type .D → Denots (rows (fields T N))
 values T N h w = (T .type .to h, (N .type .to w, tt))
 
+-- the two in the other order
+abbrev pub swapped : {A B : Type 0} → A × (B × Unit {0}) → B × (A × Unit {0})
+swapped z = (z .1 .0, (z .0, tt))
+
 pub record Outcome : Type 2 where
   pub states : State
   pub answers : Answer

@@ -1,5 +1,6 @@
 -- What the calls by value give, a record and an answer, as `InPlace.antt` takes it.
 -- Each is what the generated modules have of the types.
+use mathlib.Core.Path.{ap}
 use Rattle.answers.proofs.EntryAnswer as EntryAnswer
 use Rattle.answers.proofs.EntryAnswer.Laws as EntryAnswer′
 use Rattle.answers.proofs.EntryOutcome as EntryOutcome
@@ -21,7 +22,7 @@ use Rattle.record.proofs.Record.Laws as Record′
 use Rattle.record.proofs.Writer as Writer
 use Rattle.record.proofs.Writer.Laws as Writer′
 use Rattle.writer.proofs.starts.StartedWriter as StartedWriter
-use Rattle.in_place.proofs.Outcome.{State, Answer, Outcome, OutcomeOf}
+use Rattle.in_place.proofs.Outcome.{State, Answer, swapped, Outcome, OutcomeOf}
 
 abbrev panel : State
 panel = record { type = Record.the-type; laws = Record′.the-laws; lowers = Record′.lowers; plain = Record′.the-plain }
@@ -42,13 +43,13 @@ abbrev pub step-answer : Answer
 step-answer = record { type = StepAnswer.the-type; laws = StepAnswer′.the-laws; few = tt; lowers = StepAnswer′.lowers; plain = StepAnswer′.the-plain }
 
 abbrev pub step-outcome : Outcome
-step-outcome = record { states = panel; answers = step-answer; name = StepOutcome.the-type .name; D = StepOutcome.the-type .D; state = λ r. r .panel; answer = λ r. r .answer; one = StepOutcome.the-type .to-one }
+step-outcome = record { states = panel; answers = step-answer; name = StepOutcome.the-type .name; D = StepOutcome.the-type .D; state = λ r. r .panel; answer = λ r. r .answer; one = λ x y e. StepOutcome.the-type .to-one x y (ap swapped e) }
 
 abbrev pub turn-answer : Answer
 turn-answer = record { type = TurnAnswer.the-type; laws = TurnAnswer′.the-laws; few = tt; lowers = TurnAnswer′.lowers; plain = TurnAnswer′.the-plain }
 
 abbrev pub turn-outcome : Outcome
-turn-outcome = record { states = panel; answers = turn-answer; name = TurnOutcome.the-type .name; D = TurnOutcome.the-type .D; state = λ r. r .panel; answer = λ r. r .answer; one = TurnOutcome.the-type .to-one }
+turn-outcome = record { states = panel; answers = turn-answer; name = TurnOutcome.the-type .name; D = TurnOutcome.the-type .D; state = λ r. r .panel; answer = λ r. r .answer; one = λ x y e. TurnOutcome.the-type .to-one x y (ap swapped e) }
 
 abbrev entry-answer : Answer
 entry-answer = record { type = EntryAnswer.the-type; laws = EntryAnswer′.the-laws; few = tt; lowers = EntryAnswer′.lowers; plain = EntryAnswer′.the-plain }

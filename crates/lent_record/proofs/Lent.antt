@@ -29,17 +29,17 @@ use denote.Triple.End.{all, Fins, Outs, outs, lastsOf}
 use denote.Triple.Entry.{Vals}
 use denote.Triple.Spec.{Meets, tripleOf}
 use denote.Triple.Table.{entered}
-use Rattle.in_place.proofs.Outcome.{Outcome, StateT, AnswerT, state-row, outcome-row}
+use Rattle.in_place.proofs.Outcome.{Outcome, StateT, AnswerT, state-row}
 use Rattle.in_place.proofs.Params.{Param, slots, tys, spells, tellss, passed, args, well-typed}
 use Rattle.in_place.proofs.Passing.{Passing}
 use Rattle.in_place.proofs.Walk.{Further, Entry, Exit}
-use Rattle.lent_record.proofs.Lending.{Made, middle, behind, function, walk}
+use Rattle.lent_record.proofs.Lending.{given-row, Made, middle, behind, function, walk}
 
 module _ (O : Outcome) (m : Made O) {n : ℕ} (ps : List (Param n)) where
   -- the signature, with each parameter's last value in the contract
   abbrev pub ended : Ended
   ended = record {
-    signature = record { lifetimes = n; outlives = []; params = plain (λ κs. state-row O) ∷ slots ps; result = plain (λ κs. outcome-row O) };
+    signature = record { lifetimes = n; outlives = []; params = plain (λ κs. state-row O) ∷ slots ps; result = plain (λ κs. given-row O (m .order)) };
     kept = (yes, all yes (slots ps));
   }
 

@@ -4,7 +4,7 @@
 usage: python3 tools/respell.py    at the top of the repository, once, after the toolchain's port.py
 
 Respelled are names that specs/ and proofs/*.antt declare: definitions, lemmas, labels of records,
-constructors. `withWork` becomes `with_work`, `turn-by-due` becomes `turn_by_due`. Types and modules keep
+constructors, and what modules inside them declare. `withWork` becomes `with_work`, `turn-by-due` becomes `turn_by_due`. Types and modules keep
 their capital, names of src/ and of the library keep theirs. Names are replaced as whole words in .antt
 files, in the clauses of .rt files, in must-fail edits and between back quotes in README.md and docs/.
 It stops, and writes nothing, where two names would fall together.
@@ -16,7 +16,7 @@ import sys
 
 WORD = r"[^\s(){}\[\],;:.=λ×→⌜⌝∗`'\"|]"
 DECLARED = re.compile(r"^(?:(?:abbrev|unfoldable|pub|data|record|deriving|mutual)\s+)*([^\s:(){}=;.,]+)\s*:(?!:)")
-LABEL = re.compile(r"^\s+(?:pub\s+)?([A-Za-z][^\s:(){}=;.,]*)\s*:\s")
+INNER = re.compile(r"^\s+(?:(?:abbrev|unfoldable|pub)\s+)*([a-z][^\s:(){}=;.,]*)\s*:(?!:)")
 NOT_NAMES = {"where"}
 # Names that the rule would make one with another name in use, and what they become instead. A lemma with the
 # name of its function gets `_lem`.
@@ -34,6 +34,19 @@ CHOSEN = {
     "stores-slot": "does_store_slot",
     "in-range": "is_in_range",
     "in-turn": "steps_in_turn",
+    "word-of": "word_of_lem",
+    "reader-digit": "reader_digit_lem",
+    "largest-counted": "largest_counted_lem",
+    "work-in-range": "work_in_range_lem",
+    "reading-after": "reading_after_lem",
+    "served-by": "served_by_lem",
+    "feeds-now": "feeds_now_lem",
+    "rows-now": "rows_now_lem",
+    "sizes-in-range": "sizes_in_range_lem",
+    "others-empty": "others_empty_lem",
+    "change-access": "change_access_lem",
+    "put-access": "put_access_lem",
+    "removal-access": "removal_access_lem",
     "goesOn": "going_on",
     "fieldIn": "field_read",
 }
@@ -66,21 +79,15 @@ def read(path):
 
 
 def declared():
+    """Names declared at the top of a file, and those in a record, a data type or a module in it."""
     names = {}
     for path in files("crates", (".antt",)):
         if is_of_function(path):
             continue
-        in_record = False
         for line in read(path).splitlines():
-            top = DECLARED.match(line)
-            if top:
-                names.setdefault(top.group(1), path)
-            if line and not line[0].isspace():
-                in_record = bool(re.match(r"^(?:pub\s+)?(?:record|data)\s|^(?:abbrev|unfoldable)?\s*(?:pub\s+)?(?:record|data)\s", line))
-            elif in_record:
-                label = LABEL.match(line)
-                if label:
-                    names.setdefault(label.group(1), path)
+            found = DECLARED.match(line) or INNER.match(line)
+            if found:
+                names.setdefault(found.group(1), path)
     return names
 
 

@@ -45,12 +45,12 @@ module _ {A : Type 0} (left : Answer → A) (done : A) where
   by_number zero h = absurd (omega arith)
   by_number (suc n) h = refl
 
-  pub refused-call : (r : Refusal) → unless_refused (number_of r) left done ≡ left (refused (number_of r))
-  refused-call r = by_number (number_of r) (number_positive r)
+  pub refused_call : (r : Refusal) → unless_refused (number_of r) left done ≡ left (refused (number_of r))
+  refused_call r = by_number (number_of r) (number_positive r)
 
-  pub allowed-call : unless_refused 0 left done ≡ done
+  pub allowed_call : unless_refused 0 left done ≡ done
   unfolding unless_refused
-  allowed-call = refl
+  allowed_call = refl
 
 -- what holds of what a refused call leaves, and of the call done where it is not refused, holds of the call
 pub unless : {A : Type 0} (P : A → Type 0) (n : ℕ) (left : Answer → A) (done : A) → ((answer : Answer) → P (left answer)) → (n ≡ 0 → P done) → P (unless_refused n left done)

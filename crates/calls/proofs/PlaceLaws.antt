@@ -12,7 +12,7 @@ use Rattle.record.specs.declared.WriterWork.{WriterWork}
 use Rattle.record.specs.Parts.{with_writer}
 use Rattle.answers.specs.Answers.{Outcome, outcome}
 use Rattle.answers.proofs.AnswerLaws.{unless}
-use Rattle.reader_starts.proofs.ReaderLaws.{step-leaves, lookup-leaves, walk-leaves}
+use Rattle.reader_starts.proofs.ReaderLaws.{step_leaves, lookup_leaves, walk_leaves}
 use Rattle.writer.specs.Starts.{start_writer, start_put, start_change, start_removal}
 use Rattle.writer.proofs.WriterLaws.{step_keeps}
 use Rattle.command.specs.declared.Sent.{Sent}
@@ -26,33 +26,33 @@ module _ (panel : Record) (slots : List ℕ) where
   abbrev Stays : Outcome → Type 0
   Stays after = after.panel.place ≡ panel.place
 
-  start-stays : (point : ℕ) (work : WriterWork) → Stays (start_writer panel slots point work)
+  start_stays : (point : ℕ) (work : WriterWork) → Stays (start_writer panel slots point work)
   unfolding start_writer with_writer
-  start-stays point work = unless Stays _ (outcome panel slots) _ (λ answer. refl) (λ carried. refl)
+  start_stays point work = unless Stays _ (outcome panel slots) _ (λ answer. refl) (λ carried. refl)
 
-  change-stays : (sent : Sent) → Stays (change_starts panel slots sent)
+  change_stays : (sent : Sent) → Stays (change_starts panel slots sent)
   unfolding change_starts with_writer
-  change-stays sent = unless Stays _ (outcome panel slots) _ (λ answer. refl) (λ carried. refl)
+  change_stays sent = unless Stays _ (outcome panel slots) _ (λ answer. refl) (λ carried. refl)
 
-  taken-stays : (sent : Sent) (last : Station) → Stays (in_turn panel slots sent last)
+  taken_stays : (sent : Sent) (last : Station) → Stays (in_turn panel slots sent last)
   unfolding in_turn number_equal number_other
-  taken-stays sent last =
+  taken_stays sent last =
       cond_holds Stays (eqb sent.number last.number) _ _
       (λ equal. cond_holds Stays (both (eqb sent.point last.point) (eqb sent.action last.action)) _ _ (λ same. refl) (λ other. refl))
-      (λ other. cond_holds Stays (eqb sent.number (last.number + 1)) _ _ (λ next. change-stays sent) (λ out-of-turn. refl))
+      (λ other. cond_holds Stays (eqb sent.number (last.number + 1)) _ _ (λ next. change_stays sent) (λ out-of-turn. refl))
 
-  command-stays : (bytes : List ℕ) → Stays (start_command panel slots bytes)
+  command_stays : (bytes : List ℕ) → Stays (start_command panel slots bytes)
   unfolding start_command
-  command-stays bytes = unless Stays _ (outcome panel slots) _ (λ answer. refl) (λ taken. taken-stays _ _)
+  command_stays bytes = unless Stays _ (outcome panel slots) _ (λ answer. refl) (λ taken. taken_stays _ _)
 
-  pub only-turns-move : (call : Call) (frame : List ℕ) → call ≢ Turn → (applied panel slots call frame).panel.place ≡ panel.place
+  pub only_turns_move : (call : Call) (frame : List ℕ) → call ≢ Turn → (applied panel slots call frame).panel.place ≡ panel.place
   unfolding applied start_put start_change start_removal
-  only-turns-move (StartLookup reader point) frame other = (lookup-leaves reader panel slots point).place_stays
-  only-turns-move (StartWalk reader) frame other = (walk-leaves reader panel slots).place_stays
-  only-turns-move (StepReader reader) frame other = (step-leaves reader panel slots).place_stays
-  only-turns-move (StartPut point value) frame other = start-stays point _
-  only-turns-move (StartChange point keep flip) frame other = start-stays point _
-  only-turns-move (StartRemoval point) frame other = start-stays point _
-  only-turns-move StartCommand frame other = command-stays frame
-  only-turns-move StepWriter frame other = (step_keeps panel slots).place_stays
-  only-turns-move Turn frame other = absurd (other refl)
+  only_turns_move (StartLookup reader point) frame other = (lookup_leaves reader panel slots point).place_stays
+  only_turns_move (StartWalk reader) frame other = (walk_leaves reader panel slots).place_stays
+  only_turns_move (StepReader reader) frame other = (step_leaves reader panel slots).place_stays
+  only_turns_move (StartPut point value) frame other = start_stays point _
+  only_turns_move (StartChange point keep flip) frame other = start_stays point _
+  only_turns_move (StartRemoval point) frame other = start_stays point _
+  only_turns_move StartCommand frame other = command_stays frame
+  only_turns_move StepWriter frame other = (step_keeps panel slots).place_stays
+  only_turns_move Turn frame other = absurd (other refl)

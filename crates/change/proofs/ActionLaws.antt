@@ -17,8 +17,8 @@ by_masks action value = bit_xor (bit_and value (action_masks action).keep) (acti
 
 -- masks that keep all 31 bits above bit 0 and flip none of them leave these bits as they are; bit 0 follows from the masks' bits 0
 module _ (value keep flip : ℕ) (fits : value < 4294967296) (kept : keep / 2 ≡ 2147483647) (flipped : flip / 2 ≡ 0) where
-  upper-bits : bit_xor (bit_and value keep) flip / 2 ≡ value / 2
-  upper-bits =
+  upper_bits : bit_xor (bit_and value keep) flip / 2 ≡ value / 2
+  upper_bits =
       xor_shr (bit_and value keep) flip 1 ∙ ap (bit_xor (bit_and value keep / 2)) flipped ∙ xor_zero_r (bit_and value keep / 2)
       ∙ and_shr value keep 1 ∙ ap (bit_and (value / 2)) kept ∙ and_mask (value / 2) 31 ∙ mod-eq_of_lt (omega arith)
 
@@ -26,15 +26,15 @@ module _ (value keep flip : ℕ) (fits : value < 4294967296) (kept : keep / 2 �
   masked odd e =
       let bit : bit_xor (bit_and value keep) flip % 2 ≡ bit_xor (bit_and odd (keep % 2)) (flip % 2) =
       xor_mod (bit_and value keep) flip 1 ∙ ap (λ (n : ℕ). bit_xor n (flip % 2)) (and_mod value keep 1 ∙ ap (λ (n : ℕ). bit_and n (keep % 2)) e) in
-      omega (arith, upper-bits)
+      omega (arith, upper_bits)
 
 module _ (action value : ℕ) (fits : value < 4294967296) where
   -- by the action: none alters a bit above bit 0
   others_stay : (enables disables : Bool) → eqb action 0 ≡ enables → eqb action 1 ≡ disables → by_masks action value / 2 ≡ value / 2
   unfolding action_masks
-  others_stay true disables p q = rw p (upper-bits value _ _ fits refl refl)
-  others_stay false true p q = rw (p, q) (upper-bits value _ _ fits refl refl)
-  others_stay false false p q = rw (p, q) (upper-bits value _ _ fits refl refl)
+  others_stay true disables p q = rw p (upper_bits value _ _ fits refl refl)
+  others_stay false true p q = rw (p, q) (upper_bits value _ _ fits refl refl)
+  others_stay false false p q = rw (p, q) (upper_bits value _ _ fits refl refl)
 
   -- by the action, and by even and odd
   acts : (odd : ℕ) (enables disables : Bool) → value % 2 ≡ odd → eqb action 0 ≡ enables → eqb action 1 ≡ disables → by_masks action value ≡ acted action value

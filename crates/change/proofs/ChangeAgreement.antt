@@ -29,19 +29,19 @@ use Rattle.answers.specs.Answers.{changed, ended_with, stored_answer}
 use Rattle.plain_list.specs.PlainList.{Rows, absent, entry_of, with_value, Told, tells, change_entry, change_row}
 use Rattle.plain_list.proofs.RowLaws.{Steady, steady_same, steady_value}
 use Rattle.plain_list.proofs.Agreement.{valid_low, Agrees, Tight, tight_value}
-use Rattle.plain_list.proofs.Changes.{agrees-stored}
+use Rattle.plain_list.proofs.Changes.{agrees_stored}
 use Rattle.search.specs.declared.access.ReadAccess.{ReadAccess}
 use Rattle.search.specs.declared.Searched.{Searched}
 use Rattle.search.specs.declared.Searched.TheVariants.{Going, Answered}
 use Rattle.search.specs.declared.SearchAnswer.TheVariants.{Found as SearchAnswer-as-Found, Unknown}
 use Rattle.search.specs.Access.{word_read}
 use Rattle.search.specs.Search.{search_access, search_advance}
-use Rattle.search.proofs.TrailLaws.{Knows, search-knows}
+use Rattle.search.proofs.TrailLaws.{Knows, search_knows}
 use Rattle.effects.specs.declared.memory.WriterAccess.{WriterAccess}
 use Rattle.effects.specs.declared.memory.WriterAccess.TheVariants.{Read}
 use Rattle.effects.specs.Memory.{store_word, access_read, slots_after}
 use Rattle.effects.specs.Effects.{going_on, ends, updated}
-use Rattle.effects.proofs.StepAgreement.{Standing, standing, ChangeOK, FlipFits, WorkOK, begun, is_commanded, not_a_command, command_ends_lem, StepOK, goes_on, ends-fed}
+use Rattle.effects.proofs.StepAgreement.{Standing, standing, ChangeOK, FlipFits, WorkOK, begun, is_commanded, not_a_command, command_ends_lem, StepOK, goes_on, ends_fed}
 use Rattle.change.specs.Change.{action_masks, masks_of, new_value, change_stage_access, change_access, alteration_ends, command_ends, change_at, change_answered, change_searched, change_stores, change_stage_advance, change_advance}
 
 -- what the plain list says to this change
@@ -81,19 +81,19 @@ module _ (panel : Record) (slots : List ℕ) (rows : Rows) (change : Change) (ag
   at_end : (access : WriterAccess) (alteration : Alteration) (stored : CommandAnswer) (told : Told) → change.alteration ≡ alteration → stored_answer stored ≡ told.answer → Steady rows told.rows → Agrees m k panel.reach panel.counts (slots_after slots access) told.rows → Tight m k panel.reach told.rows → StepOK panel slots access (ends (alteration_ends alteration q stored) told.answer) rows told (Changing change)
   unfolding alteration_ends ends updated with_station with_stations
   at_end access (Given masks) stored told is same steady after tight =
-      ends-fed refl refl refl steady (not_a_command (ap is_commanded is) refl) (record { agrees = after; work = tight })
+      ends_fed refl refl refl steady (not_a_command (ap is_commanded is) refl) (record { agrees = after; work = tight })
   at_end access (Commanded command) stored told is same steady after tight =
-      ends-fed refl refl refl steady (command_ends_lem command stored is same refl) (record { agrees = after; work = tight })
+      ends_fed refl refl refl steady (command_ends_lem command stored is same refl) (record { agrees = after; work = tight })
 
   -- a step that reads, and goes on at this stage
-  on-stage : (read : ReadAccess) (stage : ChangeStage) → ChangeOK m k panel.reach slots rows q stage → StepOK panel slots (Read read) (change_at change stage) rows (change_told change rows) (Changing change)
+  on_stage : (read : ReadAccess) (stage : ChangeStage) → ChangeOK m k panel.reach slots rows q stage → StepOK panel slots (Read read) (change_at change stage) rows (change_told change rows) (Changing change)
   unfolding slots_after change_at going_on updated begun
-  on-stage read stage h = goes_on refl refl refl refl refl refl refl refl (record { agrees = agrees; work = (h, flips) })
+  on_stage read stage h = goes_on refl refl refl refl refl refl refl refl (record { agrees = agrees; work = (h, flips) })
 
   searched : (read : ReadAccess) (after : Searched) → Tight m k panel.reach rows → Knows (entry_of q rows ≡ absent) m k q rows after → StepOK panel slots (Read read) (change_searched change after) rows (change_told change rows) (Changing change)
   unfolding change_searched change_answered command_ends change_row change_entry stored_answer slots_after
-  searched read (Going search) tight h = on-stage read (Searching search) (h, tight)
-  searched read (Answered (SearchAnswer-as-Found place)) tight h = on-stage read (ChangeStage-as-Found place) (standing m k q rows place h, tight)
+  searched read (Going search) tight h = on_stage read (Searching search) (h, tight)
+  searched read (Answered (SearchAnswer-as-Found place)) tight h = on_stage read (ChangeStage-as-Found place) (standing m k q rows place h, tight)
   searched read (Answered Unknown) tight h =
       let told : change_told change rows ≡ tells rows (ended_with 7) = rw h in
       subst (λ t. StepOK panel slots (Read read) (ends (alteration_ends change.alteration q CommandAnswer-as-Unknown) (ended_with 7)) rows t (Changing change)) (sym told)
@@ -110,14 +110,14 @@ module _ (panel : Record) (slots : List ℕ) (rows : Rows) (change : Change) (ag
       let fits = new_fits change.alteration place.value (flip_fits m k panel.reach slots rows change.alteration flips) (agrees.held q place.value (position_of m q place.index) stands.found).fits in
       subst (λ t. StepOK panel slots (store_word m q place.index (word_of q (new place))) (ends (alteration_ends change.alteration q (Value (new place))) (changed (new place))) rows t (Changing change)) (sym told)
       (at_end (store_word m q place.index (word_of q (new place))) change.alteration (Value (new place)) (tells (with_value q (new place) rows) (changed (new place))) refl refl (steady_value q (new place) rows)
-      (agrees-stored m k panel.reach panel.counts slots rows agrees q place.value (position_of m q place.index) (new place) stands.found fits)
+      (agrees_stored m k panel.reach panel.counts slots rows agrees q place.value (position_of m q place.index) (new place) stands.found fits)
       (tight_value m k panel.reach q (new place) rows tight))
 
   at_stage : (stage : ChangeStage) → change_stage_in_range k stage ≡ true → ChangeOK m k panel.reach slots rows q stage → StepOK panel slots (change_stage_access m change stage) (change_stage_advance panel.reach change stage (access_read slots (change_stage_access m change stage))) rows (change_told change rows) (Changing change)
   unfolding change_stage_access change_stage_advance change_stage_in_range access_read
   at_stage (Searching search) inside h =
       searched (search_access m q search) (search_advance panel.reach q search (word_read slots (search_access m q search))) h.1
-      (search-knows (entry_of q rows ≡ absent) m k panel.reach panel.counts slots rows agrees q (valid_low q valid) (λ none. none) search inside h.0)
+      (search_knows (entry_of q rows ≡ absent) m k panel.reach panel.counts slots rows agrees q (valid_low q valid) (λ none. none) search inside h.0)
   at_stage (ChangeStage-as-Found place) inside h = stores place h.0 h.1
 
 -- a change's step

@@ -74,10 +74,10 @@ module _ (k reach : ℕ) (change : Change) (valid : valid_point change.point ≡
   searched left (Answered Unknown) s =
       record { work_fits = refl; update_fits = stored_fits k change.point change.alteration _ valid alters; ended = λ steps. refl; less = omega arith }
 
-  at-any-stage : (word : ℕ) (stage : ChangeStage) → reach ≤ k → change_stage_in_range k stage ≡ true → OneEffect k reach place (change_left k stage) (change_stage_advance reach change stage word)
+  at_any_stage : (word : ℕ) (stage : ChangeStage) → reach ≤ k → change_stage_in_range k stage ≡ true → OneEffect k reach place (change_left k stage) (change_stage_advance reach change stage word)
   unfolding change_stage_advance change_stage_in_range change_left change_stores command_ends ends writer_in_range writer_left
-  at-any-stage word (Searching search) r h = searched _ _ (search_step k reach change.point search word r h)
-  at-any-stage word (ChangeStage-as-Found place) r h =
+  at_any_stage word (Searching search) r h = searched _ _ (search_step k reach change.point search word r h)
+  at_any_stage word (ChangeStage-as-Found place) r h =
       record { work_fits = refl; update_fits = stored_fits k change.point change.alteration _ valid alters; ended = λ steps. refl; less = omega arith }
 
 pub change_effect : (k reach : ℕ) (change : Change) (word : ℕ) → reach ≤ k → change_in_range k change ≡ true → OneEffect k reach (numbered_place 32 (commanding_station change.alteration)) (writer_left k reach (Changing change)) (change_advance reach change word)
@@ -85,38 +85,38 @@ unfolding change_advance change_in_range writer_left
 change_effect k reach change word r h =
     let rest = both_right (valid_point change.point) _ h in
     let stage = both_right (alteration_in_range change.alteration) _ rest in
-    at-any-stage k reach change (both_left (valid_point change.point) _ h) (both_left (alteration_in_range change.alteration) _ rest) (both_right (change_stage_in_range k change.stage) _ stage) word change.stage r
+    at_any_stage k reach change (both_left (valid_point change.point) _ h) (both_left (alteration_in_range change.alteration) _ rest) (both_right (change_stage_in_range k change.stage) _ stage) word change.stage r
     (both_left (change_stage_in_range k change.stage) _ stage)
 
 -- no step of a change stores the reach
 module _ (m reach : ℕ) (change : Change) (word : ℕ) where
-  ended-reach : (alteration : Alteration) (answer : CommandAnswer) → reach_after reach (alteration_ends alteration change.point answer) ≡ reach
+  ended_reach : (alteration : Alteration) (answer : CommandAnswer) → reach_after reach (alteration_ends alteration change.point answer) ≡ reach
   unfolding alteration_ends
-  ended-reach (Given masks) answer = refl
-  ended-reach (Commanded command) answer = refl
+  ended_reach (Given masks) answer = refl
+  ended_reach (Commanded command) answer = refl
 
-  searched-reach : (after : Searched) → reach_after reach (change_searched change after).update ≡ reach
+  searched_reach : (after : Searched) → reach_after reach (change_searched change after).update ≡ reach
   unfolding change_searched change_answered change_at going_on ends command_ends
-  searched-reach (Going search) = refl
-  searched-reach (Answered (SearchAnswer-as-Found place)) = refl
-  searched-reach (Answered Unknown) = ended-reach change.alteration CommandAnswer-as-Unknown
+  searched_reach (Going search) = refl
+  searched_reach (Answered (SearchAnswer-as-Found place)) = refl
+  searched_reach (Answered Unknown) = ended_reach change.alteration CommandAnswer-as-Unknown
 
-  stage-reach : (stage : ChangeStage) → reach_after reach (change_stage_advance reach change stage word).update ≡ reach_stored reach (change_stage_access m change stage)
+  stage_reach : (stage : ChangeStage) → reach_after reach (change_stage_advance reach change stage word).update ≡ reach_stored reach (change_stage_access m change stage)
   unfolding change_stage_advance change_stage_access change_stores command_ends store_word ends reach_stored
-  stage-reach (Searching search) = searched-reach (search_advance reach change.point search word)
-  stage-reach (ChangeStage-as-Found place) = ended-reach change.alteration (Value (new_value change.alteration place.value))
+  stage_reach (Searching search) = searched_reach (search_advance reach change.point search word)
+  stage_reach (ChangeStage-as-Found place) = ended_reach change.alteration (Value (new_value change.alteration place.value))
 
-  pub change-reach : reach_after reach (change_advance reach change word).update ≡ reach_stored reach (change_access m change)
+  pub change_reach : reach_after reach (change_advance reach change word).update ≡ reach_stored reach (change_access m change)
   unfolding change_advance change_access
-  change-reach = stage-reach change.stage
+  change_reach = stage_reach change.stage
 
 -- a step reads or stores one of the slots lent
 module _ (m : ℕ) (change : Change) (low : 1 ≤ m) where
-  stage-inside : (stage : ChangeStage) → slot_named (change_stage_access m change stage) < m
+  stage_inside : (stage : ChangeStage) → slot_named (change_stage_access m change stage) < m
   unfolding change_stage_access store_word slot_named
-  stage-inside (Searching search) = search_inside m change.point search low
-  stage-inside (ChangeStage-as-Found place) = position_below m change.point place.index low
+  stage_inside (Searching search) = search_inside m change.point search low
+  stage_inside (ChangeStage-as-Found place) = position_below m change.point place.index low
 
-  pub change-inside : slot_named (change_access m change) < m
+  pub change_inside : slot_named (change_access m change) < m
   unfolding change_access
-  change-inside = stage-inside change.stage
+  change_inside = stage_inside change.stage

@@ -120,9 +120,9 @@ module _ (works : ℕ → Bool) (x : ℕ) (tells : (i : ℕ) → i ≤ 16 → wo
       rw (last, add-zero more) at found ∙ ap (λ (digits : ℕ). highest digits nobody) (mod-eq_of_lt small) ∙ highest_or_nobody x
 
   -- the party due is that of the highest digit from the place on, or where these are 0, of the highest of all
-  pub told-due : (place : ℕ) → place ≤ 16 → x < 2 ^ 17 → party_due works place ≡ highest (x % 2 ^ (17 - place)) (count_leading_zeros 32 x - 15)
+  pub told_due : (place : ℕ) → place ≤ 16 → x < 2 ^ 17 → party_due works place ≡ highest (x % 2 ^ (17 - place)) (count_leading_zeros 32 x - 15)
   unfolding party_due party_after
-  told-due place low small =
+  told_due place low small =
       let more = 16 - place in
       let count : more + place ≡ 16 = omega arith in
       let start : 16 - (0 + more) ≡ place = omega arith in

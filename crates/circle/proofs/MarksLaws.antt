@@ -11,48 +11,48 @@ use Rattle.record.specs.Parts.{idle_reader, work_of}
 use Rattle.record.specs.Idle.{is_reader_idle, is_writer_idle}
 use Rattle.circle.specs.Circle.{is_at_work}
 use Rattle.circle.specs.Marks.{marked_with, marked_behind, all_marked, is_marked, due_by}
-use Rattle.circle.proofs.HighestDigit.{digit_kept, highest, highest_none, highest_some, leading_enough, told-due, from_place}
+use Rattle.circle.proofs.HighestDigit.{digit_kept, highest, highest_none, highest_some, leading_enough, told_due, from_place}
 
 -- the writer's digit, and those of the readers behind it
 module _ (work : WriterWork) (marks : ℕ) where
-  readers-kept : all_marked work marks % 65536 ≡ marks % 65536
+  readers_kept : all_marked work marks % 65536 ≡ marks % 65536
   unfolding all_marked
-  readers-kept =
+  readers_kept =
       cond_holds (λ (digit : ℕ). (marks % 65536 + digit) % 65536 ≡ marks % 65536) (is_writer_idle work) 0 65536 (λ e. omega arith) (λ e. omega arith)
 
   all_small : all_marked work marks < 2 ^ 17
   unfolding all_marked
   all_small = cond_holds (λ (digit : ℕ). marks % 65536 + digit < 131072) (is_writer_idle work) 0 65536 (λ e. omega arith) (λ e. omega arith)
 
-  writer-digit : is_marked work marks 0 ≡ eqb (all_marked work marks / 2 ^ 16 % 2) 1
+  writer_digit : is_marked work marks 0 ≡ eqb (all_marked work marks / 2 ^ 16 % 2) 1
   unfolding all_marked is_marked
-  writer-digit = go (is_writer_idle work)
+  writer_digit = go (is_writer_idle work)
     where
       go : (idle : Bool) → not idle ≡ eqb ((marks % 65536 + cond idle 0 65536) / 65536 % 2) 1
       go true = sym (ne_eqb ((marks % 65536 + 0) / 65536 % 2) 1 (λ e. omega arith))
       go false = sym (eq-eqb ((marks % 65536 + 65536) / 65536 % 2) 1 (omega arith))
 
-  reader-digit : (reader : ℕ) → reader ≤ 15 → is_marked work marks (suc reader) ≡ eqb (marks / 2 ^ (15 - reader) % 2) 1
+  reader_digit_lem : (reader : ℕ) → reader ≤ 15 → is_marked work marks (suc reader) ≡ eqb (marks / 2 ^ (15 - reader) % 2) 1
   unfolding is_marked both
-  reader-digit reader low = rw (lt-ltb reader 16 (omega arith))
+  reader_digit_lem reader low = rw (lt-ltb reader 16 (omega arith))
 
   -- each digit tells of its party: the lowest of the last reader
-  digits-tell : (i : ℕ) → i ≤ 16 → is_marked work marks (16 - i) ≡ eqb (all_marked work marks / 2 ^ i % 2) 1
-  digits-tell i low = go (16 - i) (omega arith)
+  digits_tell : (i : ℕ) → i ≤ 16 → is_marked work marks (16 - i) ≡ eqb (all_marked work marks / 2 ^ i % 2) 1
+  digits_tell i low = go (16 - i) (omega arith)
     where
       same : i ≤ 15 → marks / 2 ^ i % 2 ≡ all_marked work marks / 2 ^ i % 2
       same below =
           sym (digit_kept 16 marks i (omega arith))
-          ∙ ap (λ (y : ℕ). y / 2 ^ i % 2) (sym readers-kept)
+          ∙ ap (λ (y : ℕ). y / 2 ^ i % 2) (sym readers_kept)
           ∙ digit_kept 16 (all_marked work marks) i (omega arith)
 
       go : (party : ℕ) → party + i ≡ 16 → is_marked work marks party ≡ eqb (all_marked work marks / 2 ^ i % 2) 1
       go zero whole =
           let last : i ≡ 16 = omega arith in
-          rw last writer-digit
+          rw last writer_digit
       go (suc reader) whole =
           let place : 15 - reader ≡ i = omega arith in
-          reader-digit reader (omega arith) ∙ rw place (ap (λ (n : ℕ). eqb n 1) (same (omega arith)))
+          reader_digit_lem reader (omega arith) ∙ rw place (ap (λ (n : ℕ). eqb n 1) (same (omega arith)))
 
 pub due_outside : (fits : Bool) (place marks : ℕ) (work : WriterWork) → both fits (leb place 16) ≡ false → due_by fits place work marks ≡ 18
 unfolding due_by
@@ -63,26 +63,26 @@ place_within fits place inside = leb-true place 16 (both_right fits (leb place 1
 
 -- the party due, as the code finds it
 module _ (marks all : ℕ) (work : WriterWork) (same : all ≡ all_marked work marks) where
-  pub cut-leads : (mask : ℕ) → 15 ≤ count_leading_zeros 32 (bit_and all mask)
-  cut-leads mask = leading_enough (bit_and all mask) (lt_of_le_of_lt (and_le_l all mask) (rw same (all_small work marks)))
+  pub cut_leads : (mask : ℕ) → 15 ≤ count_leading_zeros 32 (bit_and all mask)
+  cut_leads mask = leading_enough (bit_and all mask) (lt_of_le_of_lt (and_le_l all mask) (rw same (all_small work marks)))
 
-  pub all-leads : 15 ≤ count_leading_zeros 32 all
-  all-leads = leading_enough all (rw same (all_small work marks))
+  pub all_leads : 15 ≤ count_leading_zeros 32 all
+  all_leads = leading_enough all (rw same (all_small work marks))
 
   module _ (fits : Bool) (place : ℕ) (inside : both fits (leb place 16) ≡ true) where
-    due-highest : highest (bit_and all (131072 / 2 ^ place - 1)) (count_leading_zeros 32 all - 15) ≡ due_by fits place work marks
+    due_highest : highest (bit_and all (131072 / 2 ^ place - 1)) (count_leading_zeros 32 all - 15) ≡ due_by fits place work marks
     unfolding due_by
-    due-highest =
+    due_highest =
         let low : place ≤ 16 = place_within fits place inside in
         rw (inside, same, from_place (all_marked work marks) place (omega arith))
-        (sym (told-due (is_marked work marks) (all_marked work marks) (digits-tell work marks) place low (all_small work marks)))
+        (sym (told_due (is_marked work marks) (all_marked work marks) (digits_tell work marks) place low (all_small work marks)))
 
-    pub due-around : bit_and all (131072 / 2 ^ place - 1) ≡ 0 → count_leading_zeros 32 all - 15 ≡ due_by fits place work marks
-    due-around none = sym (highest_none _ (count_leading_zeros 32 all - 15) none) ∙ due-highest
+    pub due_around : bit_and all (131072 / 2 ^ place - 1) ≡ 0 → count_leading_zeros 32 all - 15 ≡ due_by fits place work marks
+    due_around none = sym (highest_none _ (count_leading_zeros 32 all - 15) none) ∙ due_highest
 
-    pub due-ahead : (bit_and all (131072 / 2 ^ place - 1) ≡ 0 → ⊥)
+    pub due_ahead : (bit_and all (131072 / 2 ^ place - 1) ≡ 0 → ⊥)
         → count_leading_zeros 32 (bit_and all (131072 / 2 ^ place - 1)) - 15 ≡ due_by fits place work marks
-    due-ahead some = sym (highest_some _ (count_leading_zeros 32 all - 15) some) ∙ due-highest
+    due_ahead some = sym (highest_some _ (count_leading_zeros 32 all - 15) some) ∙ due_highest
 
 -- a reader's digit
 reader_digit : Reader → ℕ
@@ -155,6 +155,6 @@ marks_tell panel sixteen (suc n) low =
     let readers = panel.readers in
     let place : 15 - n ≡ length readers - suc n = omega arith in
     let digit = joined_all readers 0 n (omega arith) (omega arith) in
-    reader-digit panel.writer.work (marked_behind 0 readers) n (omega arith)
+    reader_digit_lem panel.writer.work (marked_behind 0 readers) n (omega arith)
     ∙ rw place (ap (λ (d : ℕ). eqb d 1) digit)
     ∙ digit_tells (get_or readers n idle_reader)

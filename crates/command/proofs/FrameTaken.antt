@@ -43,21 +43,21 @@ refused_receipt zero sent h = absurd (omega arith)
 refused_receipt (suc n) sent h = refl
 
 module _ (bytes : List ℕ) (some : eqb (length bytes) 0 ≡ false) (map : get_or bytes 0 0 ≡ 0x0F) where
-  same-refusal : frame_refusal bytes ≡ read_refusal bytes
+  same_refusal : frame_refusal bytes ≡ read_refusal bytes
   unfolding frame_refusal refuse_if
-  same-refusal = rw (some, eq-eqb _ _ map)
+  same_refusal = rw (some, eq-eqb _ _ map)
 
-  pub command-taken : (kind : Kind) (f : Fields) → paper_read (Frame kind f) ≡ read_frame bytes → record { refused = 0; sent = sent_of f } ≡ received_from bytes
+  pub command_taken : (kind : Kind) (f : Fields) → paper_read (Frame kind f) ≡ read_frame bytes → record { refused = 0; sent = sent_of f } ≡ received_from bytes
   unfolding read_frame received_from receipt sent_in
-  command-taken kind f e =
+  command_taken kind f e =
       let r = frame_handed (read_refusal bytes) (get_or bytes 0 0) (map_of kind) (fields_in bytes (get_or bytes 0 0)) f e in
-      ap₂ receipt (sym (same-refusal ∙ r.0)) (ap sent_of (r.1 ∙ ap (fields_in bytes) map))
+      ap₂ receipt (sym (same_refusal ∙ r.0)) (ap sent_of (r.1 ∙ ap (fields_in bytes) map))
 
-  pub refusal-taken : (r : Refusal) → paper_read (Refused r) ≡ read_frame bytes → record { refused = number_of r; sent = no_command } ≡ received_from bytes
+  pub refusal_taken : (r : Refusal) → paper_read (Refused r) ≡ read_frame bytes → record { refused = number_of r; sent = no_command } ≡ received_from bytes
   unfolding read_frame received_from
-  refusal-taken r e =
+  refusal_taken r e =
       let n = refusal_handed (read_refusal bytes) (get_or bytes 0 0) (number_of r) (fields_in bytes (get_or bytes 0 0)) (number_positive r) e in
-      refused_receipt (number_of r) (sent_in bytes) (number_positive r) ∙ ap (λ (k : ℕ). receipt k (sent_in bytes)) (n ∙ sym same-refusal)
+      refused_receipt (number_of r) (sent_in bytes) (number_positive r) ∙ ap (λ (k : ℕ). receipt k (sent_in bytes)) (n ∙ sym same_refusal)
 
 -- a record in range leaves the frame to be judged
 pub record_allowed : (lent : ℕ) (panel : Record) (bytes : List ℕ) → in_range lent panel ≡ true → entry_refusal lent panel bytes ≡ frame_refusal bytes

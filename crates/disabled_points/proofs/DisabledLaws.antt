@@ -16,25 +16,25 @@ use Rattle.slot_words.specs.Word.{point_of, value_of}
 use Rattle.disabled_points.specs.Disabled.{holds_disabled, disabled_points, one_of, lowest, lower_of}
 
 module _ (l : List ℕ) (i : ℕ) where
-  pub points-more : i < length l → holds_disabled (get_or l i 0) ≡ true → disabled_points (drop i l) ≡ point_of (get_or l i 0) ∷ disabled_points (drop (i + 1) l)
+  pub points_more : i < length l → holds_disabled (get_or l i 0) ≡ true → disabled_points (drop i l) ≡ point_of (get_or l i 0) ∷ disabled_points (drop (i + 1) l)
   unfolding disabled_points
-  points-more h e = rw (add-one i, drop-cons l i 0 h, e)
+  points_more h e = rw (add-one i, drop-cons l i 0 h, e)
 
-  pub points-same : i < length l → holds_disabled (get_or l i 0) ≡ false → disabled_points (drop i l) ≡ disabled_points (drop (i + 1) l)
+  pub points_same : i < length l → holds_disabled (get_or l i 0) ≡ false → disabled_points (drop i l) ≡ disabled_points (drop (i + 1) l)
   unfolding disabled_points
-  points-same h e = rw (add-one i, drop-cons l i 0 h, e)
+  points_same h e = rw (add-one i, drop-cons l i 0 h, e)
 
-  pub points-end : length l ≤ i → disabled_points (drop i l) ≡ []
+  pub points_end : length l ≤ i → disabled_points (drop i l) ≡ []
   unfolding disabled_points
-  points-end h = rw (drop_of_length-le l h)
+  points_end h = rw (drop_of_length-le l h)
 
-  pub lower-step : (least : ℕ) → i < length l → min (lower_of least (get_or l i 0)) (lowest (disabled_points (drop (i + 1) l))) ≡ min least (lowest (disabled_points (drop i l)))
+  pub lower_step : (least : ℕ) → i < length l → min (lower_of least (get_or l i 0)) (lowest (disabled_points (drop (i + 1) l))) ≡ min least (lowest (disabled_points (drop i l)))
   unfolding lower_of lowest
-  lower-step least h = go (holds_disabled (get_or l i 0)) refl
+  lower_step least h = go (holds_disabled (get_or l i 0)) refl
     where
       go : (b : Bool) → holds_disabled (get_or l i 0) ≡ b → min (cond b (min (point_of (get_or l i 0)) least) least) (lowest (disabled_points (drop (i + 1) l))) ≡ min least (lowest (disabled_points (drop i l)))
-      go true e = omega (arith, ap lowest (points-more h e))
-      go false e = omega (arith, ap lowest (points-same h e))
+      go true e = omega (arith, ap lowest (points_more h e))
+      go false e = omega (arith, ap lowest (points_same h e))
 
 pub points_fit : (l : List ℕ) → length (disabled_points l) ≤ length l
 unfolding disabled_points

@@ -11,52 +11,52 @@ use Rattle.record.specs.Parts.{count_in}
 use Rattle.effects.specs.Counts.{largest_up_to, largest_counted}
 
 module _ (counts : List ℕ) where
-  pub largest-here : (i : ℕ) → 1 ≤ i → count_in counts i ≢ 0 → largest_up_to counts i ≡ i
+  pub largest_here : (i : ℕ) → 1 ≤ i → count_in counts i ≢ 0 → largest_up_to counts i ≡ i
   unfolding largest_up_to
-  largest-here zero h e = absurd (omega arith)
-  largest-here (suc i) h e = rw (ne_eqb _ _ e)
+  largest_here zero h e = absurd (omega arith)
+  largest_here (suc i) h e = rw (ne_eqb _ _ e)
 
-  pub largest-below : (i : ℕ) → 1 ≤ i → count_in counts i ≡ 0 → largest_up_to counts i ≡ largest_up_to counts (i - 1)
+  pub largest_below : (i : ℕ) → 1 ≤ i → count_in counts i ≡ 0 → largest_up_to counts i ≡ largest_up_to counts (i - 1)
   unfolding largest_up_to
-  largest-below zero h e = absurd (omega arith)
-  largest-below (suc i) h e = let same : i ≡ suc i - 1 = omega arith in rw (eq-eqb _ _ e) (ap (largest_up_to counts) same)
+  largest_below zero h e = absurd (omega arith)
+  largest_below (suc i) h e = let same : i ≡ suc i - 1 = omega arith in rw (eq-eqb _ _ e) (ap (largest_up_to counts) same)
 
-  up-to-high : (n : ℕ) → largest_up_to counts n ≤ n
+  up_to_high : (n : ℕ) → largest_up_to counts n ≤ n
   unfolding largest_up_to
-  up-to-high zero = omega arith
-  up-to-high (suc i) = go (eqb (count_in counts (suc i)) 0) (up-to-high i)
+  up_to_high zero = omega arith
+  up_to_high (suc i) = go (eqb (count_in counts (suc i)) 0) (up_to_high i)
     where
       go : (b : Bool) → largest_up_to counts i ≤ i → cond b (largest_up_to counts i) (suc i) ≤ suc i
       go true below = omega arith
       go false below = omega arith
 
-  pub largest-high : (k : ℕ) → largest_counted k counts ≤ k
+  pub largest_high : (k : ℕ) → largest_counted k counts ≤ k
   unfolding largest_counted
-  largest-high k = up-to-high k
+  largest_high k = up_to_high k
 
-  up-to-covers : (n j : ℕ) → 1 ≤ j → j ≤ n → count_in counts j ≢ 0 → j ≤ largest_up_to counts n
+  up_to_covers : (n j : ℕ) → 1 ≤ j → j ≤ n → count_in counts j ≢ 0 → j ≤ largest_up_to counts n
   unfolding largest_up_to
-  up-to-covers zero j low high h = absurd (omega arith)
-  up-to-covers (suc i) j low high h = go (eqb (count_in counts (suc i)) 0) refl (λ (l : j ≤ i). up-to-covers i j low l h)
+  up_to_covers zero j low high h = absurd (omega arith)
+  up_to_covers (suc i) j low high h = go (eqb (count_in counts (suc i)) 0) refl (λ (l : j ≤ i). up_to_covers i j low l h)
     where
       go : (b : Bool) → eqb (count_in counts (suc i)) 0 ≡ b → (j ≤ i → j ≤ largest_up_to counts i) → j ≤ cond b (largest_up_to counts i) (suc i)
       go true e ih =
           let other : j ≢ suc i = λ same. h (ap (count_in counts) same ∙ eqb-true (count_in counts (suc i)) 0 e) in ih (omega arith)
       go false e ih = high
 
-  pub largest-covers : (k j : ℕ) → 1 ≤ j → j ≤ k → count_in counts j ≢ 0 → j ≤ largest_counted k counts
+  pub largest_covers : (k j : ℕ) → 1 ≤ j → j ≤ k → count_in counts j ≢ 0 → j ≤ largest_counted k counts
   unfolding largest_counted
-  largest-covers k j low high h = up-to-covers k j low high h
+  largest_covers k j low high h = up_to_covers k j low high h
 
-  up-to-counted : (n : ℕ) → (largest_up_to counts n ≡ 0) ⊎ ((1 ≤ largest_up_to counts n) × (count_in counts (largest_up_to counts n) ≢ 0))
+  up_to_counted : (n : ℕ) → (largest_up_to counts n ≡ 0) ⊎ ((1 ≤ largest_up_to counts n) × (count_in counts (largest_up_to counts n) ≢ 0))
   unfolding largest_up_to
-  up-to-counted zero = inl refl
-  up-to-counted (suc i) = go (eqb (count_in counts (suc i)) 0) refl (up-to-counted i)
+  up_to_counted zero = inl refl
+  up_to_counted (suc i) = go (eqb (count_in counts (suc i)) 0) refl (up_to_counted i)
     where
       go : (b : Bool) → eqb (count_in counts (suc i)) 0 ≡ b → (largest_up_to counts i ≡ 0) ⊎ ((1 ≤ largest_up_to counts i) × (count_in counts (largest_up_to counts i) ≢ 0)) → (cond b (largest_up_to counts i) (suc i) ≡ 0) ⊎ ((1 ≤ cond b (largest_up_to counts i) (suc i)) × (count_in counts (cond b (largest_up_to counts i) (suc i)) ≢ 0))
       go true e ih = ih
       go false e ih = inr (omega arith, eqb-false (count_in counts (suc i)) 0 e)
 
-  pub largest-counted : (k : ℕ) → (largest_counted k counts ≡ 0) ⊎ ((1 ≤ largest_counted k counts) × (count_in counts (largest_counted k counts) ≢ 0))
+  pub largest_counted_lem : (k : ℕ) → (largest_counted k counts ≡ 0) ⊎ ((1 ≤ largest_counted k counts) × (count_in counts (largest_counted k counts) ≢ 0))
   unfolding largest_counted
-  largest-counted k = up-to-counted k
+  largest_counted_lem k = up_to_counted k

@@ -22,10 +22,10 @@ use Rattle.record.specs.declared.RemovalStage.TheVariants.{Searching as RemovalS
 use Rattle.record.specs.declared.WriterWork.{WriterWork}
 use Rattle.record.specs.declared.WriterWork.TheVariants.{Idle, Putting, Changing, Removing}
 use Rattle.record.specs.Parts.{unheard_station, numbered, with_numbered, numbered_place, with_reach, with_count, with_station, count_of, with_counts, with_stations}
-use Rattle.record.proofs.Numbered.{place_below, numbered-in-place, replaced-in-place}
+use Rattle.record.proofs.Numbered.{place_below, numbered_in_place, replaced_in_place}
 use Rattle.record_ranges.specs.Ranges.{station_in_range, in_range}
 use Rattle.work_ranges.specs.WorkRanges.{writer_in_range}
-use Rattle.record_ranges.proofs.Laws.{with-reach-in-range, with-count-in-range, with-station-in-range, count-in-range}
+use Rattle.record_ranges.proofs.Laws.{with_reach_in_range, with_count_in_range, with_station_in_range, count_in_range}
 use Rattle.answers.specs.Answers.{step_answer, is_underway}
 use Rattle.search.proofs.SearchLaws.{search_left, slot_read}
 use Rattle.effects.specs.declared.memory.WriterAccess.{WriterAccess}
@@ -49,13 +49,13 @@ update_in_range k place (Answered command) =
 pub updated_in_range : (lent place : ℕ) (panel : Record) (update : Update) → in_range lent panel ≡ true → update_in_range panel.k place update ≡ true → in_range lent (updated panel update) ≡ true
 unfolding updated update_in_range counted uncounted
 updated_in_range lent place panel Nothing h e = h
-updated_in_range lent place panel (Reach reach) h e = with-reach-in-range lent panel h reach (leb-true reach panel.k e)
+updated_in_range lent place panel (Reach reach) h e = with_reach_in_range lent panel h reach (leb-true reach panel.k e)
 updated_in_range lent place panel (Counted index) h e =
-    with-count-in-range lent panel h index (min (count_of panel index + 1) panel.m) (omega arith)
+    with_count_in_range lent panel h index (min (count_of panel index + 1) panel.m) (omega arith)
 updated_in_range lent place panel (Uncounted index) h e =
-    with-count-in-range lent panel h index (count_of panel index - 1)
-    (omega (arith, count-in-range lent panel h index (within_high 1 index panel.k e)))
-updated_in_range lent place panel (Answered command) h e = with-station-in-range lent panel h command.station command.last (both_left (station_in_range command.last) _ e)
+    with_count_in_range lent panel h index (count_of panel index - 1)
+    (omega (arith, count_in_range lent panel h index (within_high 1 index panel.k e)))
+updated_in_range lent place panel (Answered command) h e = with_station_in_range lent panel h command.station command.last (both_left (station_in_range command.last) _ e)
 
 -- the reach after an access
 unfoldable pub reach_stored : ℕ → WriterAccess → ℕ
@@ -102,39 +102,39 @@ module _ (panel : Record) (place : ℕ) where
       (with_counts (with_reach panel (reach_after panel.reach update)) (set panel.counts (count_place update) (count_after panel.m update (get_or panel.counts (count_place update) 0))))
       (set panel.stations place (station_after update (get_or panel.stations place unheard_station)))
 
-  same-counts : (at : ℕ) → set panel.counts at (get_or panel.counts at 0) ≡ panel.counts
-  same-counts at = set-get_or panel.counts at 0
+  same_counts : (at : ℕ) → set panel.counts at (get_or panel.counts at 0) ≡ panel.counts
+  same_counts at = set-get_or panel.counts at 0
 
-  same-stations : set panel.stations place (get_or panel.stations place unheard_station) ≡ panel.stations
-  same-stations = set-get_or panel.stations place unheard_station
+  same_stations : set panel.stations place (get_or panel.stations place unheard_station) ≡ panel.stations
+  same_stations = set-get_or panel.stations place unheard_station
 
   -- the count of an index is changed at its place
   recounted : (index : ℕ) (after : ℕ → ℕ) → panel.k ≤ 64 → within 1 index panel.k ≡ true → with_numbered panel.counts index (after (numbered panel.counts index 0)) ≡ set panel.counts (numbered_place 64 index) (after (get_or panel.counts (numbered_place 64 index) 0))
   recounted index after high h =
       let low = within_low 1 index panel.k h in
       let under : index ≤ 64 = omega (arith, within_high 1 index panel.k h) in
-      replaced-in-place panel.counts 64 index low under (after (numbered panel.counts index 0))
-      ∙ ap (λ (count : ℕ). set panel.counts (numbered_place 64 index) (after count)) (numbered-in-place panel.counts 64 index low under 0)
+      replaced_in_place panel.counts 64 index low under (after (numbered panel.counts index 0))
+      ∙ ap (λ (count : ℕ). set panel.counts (numbered_place 64 index) (after count)) (numbered_in_place panel.counts 64 index low under 0)
 
   -- without an update each is stored again as it was
-  pub same-in-parts : in_parts Nothing ≡ panel
+  pub same_in_parts : in_parts Nothing ≡ panel
   unfolding count_place count_after with_reach with_counts with_stations
-  same-in-parts = λ j. with_stations (with_counts panel (same-counts 0 j)) (same-stations j)
+  same_in_parts = λ j. with_stations (with_counts panel (same_counts 0 j)) (same_stations j)
 
-  pub updated-in-parts : (update : Update) → panel.k ≤ 64 → update_in_range panel.k place update ≡ true → in_parts update ≡ updated panel update
+  pub updated_in_parts : (update : Update) → panel.k ≤ 64 → update_in_range panel.k place update ≡ true → in_parts update ≡ updated panel update
   unfolding updated update_in_range counted uncounted count_place count_after with_reach with_count with_counts with_station with_stations count_of
-  updated-in-parts Nothing high h = same-in-parts
-  updated-in-parts (Reach reach) high h = λ j. with_stations (with_counts (with_reach panel reach) (same-counts 0 j)) (same-stations j)
-  updated-in-parts (Counted index) high h = λ j. with_stations (with_counts panel (sym (recounted index (one_more panel.m) high h) j)) (same-stations j)
-  updated-in-parts (Uncounted index) high h = λ j. with_stations (with_counts panel (sym (recounted index one_less high h) j)) (same-stations j)
-  updated-in-parts (Answered command) high h =
+  updated_in_parts Nothing high h = same_in_parts
+  updated_in_parts (Reach reach) high h = λ j. with_stations (with_counts (with_reach panel reach) (same_counts 0 j)) (same_stations j)
+  updated_in_parts (Counted index) high h = λ j. with_stations (with_counts panel (sym (recounted index (one_more panel.m) high h) j)) (same_stations j)
+  updated_in_parts (Uncounted index) high h = λ j. with_stations (with_counts panel (sym (recounted index one_less high h) j)) (same_stations j)
+  updated_in_parts (Answered command) high h =
       let own = both_right (station_in_range command.last) (both (within 1 command.station 32) (eqb place (numbered_place 32 command.station))) h in
       let inside = both_left (within 1 command.station 32) (eqb place (numbered_place 32 command.station)) own in
       let at = eqb-true place (numbered_place 32 command.station) (both_right (within 1 command.station 32) (eqb place (numbered_place 32 command.station)) own) in
       let stored =
       ap (λ (p : ℕ). set panel.stations p command.last) at
-      ∙ sym (replaced-in-place panel.stations 32 command.station (within_low 1 command.station 32 inside) (within_high 1 command.station 32 inside) command.last) in
-      λ j. with_stations (with_counts panel (same-counts 0 j)) (stored j)
+      ∙ sym (replaced_in_place panel.stations 32 command.station (within_low 1 command.station 32 inside) (within_high 1 command.station 32 inside) command.last) in
+      λ j. with_stations (with_counts panel (same_counts 0 j)) (stored j)
 
 -- a step more where an index exceeds the reach: the one that stores the reach
 unfoldable pub raising : ℕ → ℕ → ℕ

@@ -135,7 +135,7 @@ module _ (panel : Record) (slots : List ℕ) (access : WriterAccess) (effect : W
     -- it stores no slot, and the operation goes on
     goes_on : stores_slot access ≡ false → fed_by work ≡ 0 → fed_by effect.work ≡ 0 → begun effect.work ≡ begun work → steps_made effect.work ≡ steps_made work → is_writer_idle effect.work ≡ false → effect.progress ≡ continues → Leaves → After rows → StepOK rows told work
     -- it is the operation's last, and the first that feeds the list
-    ends-fed : fed_by work ≡ 0 → effect.work ≡ Idle → effect.progress ≡ finishes told.answer → Steady rows told.rows → Recorded panel.stations (updated panel effect.update).stations told.answer work → After told.rows → StepOK rows told work
+    ends_fed : fed_by work ≡ 0 → effect.work ≡ Idle → effect.progress ≡ finishes told.answer → Steady rows told.rows → Recorded panel.stations (updated panel effect.update).stations told.answer work → After told.rows → StepOK rows told work
     -- it stores the slot, and the reach is still to be lowered
     empties : stores_slot access ≡ true → fed_by work ≡ 0 → fed_by effect.work ≡ 1 → begun effect.work ≡ begun work → steps_made effect.work ≡ steps_made work → is_writer_idle effect.work ≡ false → effect.progress ≡ continues → told.answer ≡ removed (largest_index panel.m panel.k told.rows) → Steady rows told.rows → Leaves → After told.rows → StepOK rows told work
     -- it lowers the reach of a list that has been fed

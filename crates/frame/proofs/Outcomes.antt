@@ -41,18 +41,18 @@ unfolding write_frame write_refusal refuse_if wrote
 write_not_allowed map f out e = rw e
 
 module _ (k : Kind) (f : Fields) (out : List ℕ) where
-  refusal-of-kind : write_refusal (map_of k) f (length out) ≡ or_else (judged_by (laid k) f) (refuse_if (ltb (length out) (length_of (map_of k))) 14 0)
+  refusal_of_kind : write_refusal (map_of k) f (length out) ≡ or_else (judged_by (laid k) f) (refuse_if (ltb (length out) (length_of (map_of k))) 14 0)
   unfolding write_refusal refuse_if
-  refusal-of-kind = rw (kind_allowed k, judged_laid k f)
+  refusal_of_kind = rw (kind_allowed k, judged_laid k f)
 
-  pub write-out-of-range : (n : ℕ) → 1 ≤ n → n ≡ judged_by (laid k) f → write_frame (map_of k) f out ≡ record { refused = n; written = 0; buffer = out }
+  pub write_out_of_range : (n : ℕ) → 1 ≤ n → n ≡ judged_by (laid k) f → write_frame (map_of k) f out ≡ record { refused = n; written = 0; buffer = out }
   unfolding write_frame
-  write-out-of-range n h e = rw (refusal-of-kind, ← e, else_refused n (refuse_if (ltb (length out) (length_of (map_of k))) 14 0) h) (wrote_refused n (map_of k) f out h)
+  write_out_of_range n h e = rw (refusal_of_kind, ← e, else_refused n (refuse_if (ltb (length out) (length_of (map_of k))) 14 0) h) (wrote_refused n (map_of k) f out h)
 
-  pub write-short : (n : ℕ) → n ≡ length_of (map_of k) → 0 ≡ judged_by (laid k) f → length out < n → write_frame (map_of k) f out ≡ record { refused = 14; written = 0; buffer = out }
+  pub write_short : (n : ℕ) → n ≡ length_of (map_of k) → 0 ≡ judged_by (laid k) f → length out < n → write_frame (map_of k) f out ≡ record { refused = 14; written = 0; buffer = out }
   unfolding write_frame or_else refuse_if wrote
-  write-short n en e h = rw (refusal-of-kind, ← e, ← en, lt-ltb _ _ h)
+  write_short n en e h = rw (refusal_of_kind, ← e, ← en, lt-ltb _ _ h)
 
-  pub write-whole : (n : ℕ) (left : List ℕ) → n ≡ length_of (map_of k) → 0 ≡ judged_by (laid k) f → n ≤ length out → left ≡ put_frame (laid k) f out → write_frame (map_of k) f out ≡ record { refused = 0; written = n; buffer = left }
+  pub write_whole : (n : ℕ) (left : List ℕ) → n ≡ length_of (map_of k) → 0 ≡ judged_by (laid k) f → n ≤ length out → left ≡ put_frame (laid k) f out → write_frame (map_of k) f out ≡ record { refused = 0; written = n; buffer = left }
   unfolding write_frame or_else refuse_if wrote
-  write-whole n left en e h el = rw (refusal-of-kind, ← e, el, put_laid k f out (rw en at h), en, le-ltb _ _ (rw en at h))
+  write_whole n left en e h el = rw (refusal_of_kind, ← e, el, put_laid k f out (rw en at h), en, le-ltb _ _ (rw en at h))

@@ -54,22 +54,22 @@ module _ (map : ℕ) (f : Fields) where
   begins : (i : ℕ) → i ≤ 6 → (rest : List ℕ) × (encode map f ≡ bytes_up_to map f i ++ rest)
   begins i h = let w = prefix map f i 6 h [] in (w.0, sym (append-nil (encode map f)) ∙ w.1)
 
-  read-field : (i : ℕ) → suc i ≤ 6 → Fits map f i → field_read (encode map f) map i ≡ cond (has_bit map i) (field_of f i) 0
-  read-field i h fits = let w = begins (suc i) h in ap (λ (s : List ℕ). field_read s map i) w.1 ∙ read_step map f i w.0 fits
+  read_field : (i : ℕ) → suc i ≤ 6 → Fits map f i → field_read (encode map f) map i ≡ cond (has_bit map i) (field_of f i) 0
+  read_field i h fits = let w = begins (suc i) h in ap (λ (s : List ℕ). field_read s map i) w.1 ∙ read_step map f i w.0 fits
 
-  read-map : get_or (encode map f) 0 0 ≡ map
+  read_map : get_or (encode map f) 0 0 ≡ map
   unfolding bytes_up_to
-  read-map = ap (λ (s : List ℕ). get_or s 0 0) (begins 0 (omega arith)).1
+  read_map = ap (λ (s : List ℕ). get_or s 0 0) (begins 0 (omega arith)).1
 
-  read-fields : InRange (has_bit map) f → f.value < 2 ^ 32 → fields_in (encode map f) map ≡ kept map f
-  read-fields r v = λ j.
+  read_fields : InRange (has_bit map) f → f.value < 2 ^ 32 → fields_in (encode map f) map ≡ kept map f
+  read_fields r v = λ j.
       record {
-        station = read-field 0 (omega arith) (λ e. omega (arith, r.station e)) j;
-        number = read-field 1 (omega arith) (λ e. omega (arith, r.number e)) j;
-        point = read-field 2 (omega arith) (λ e. omega (arith, r.point e)) j;
-        action = read-field 3 (omega arith) (λ e. omega (arith, r.action e)) j;
-        value = read-field 4 (omega arith) (λ e. omega arith) j;
-        refusal = read-field 5 (omega arith) (λ e. omega (arith, r.refusal e)) j;
+        station = read_field 0 (omega arith) (λ e. omega (arith, r.station e)) j;
+        number = read_field 1 (omega arith) (λ e. omega (arith, r.number e)) j;
+        point = read_field 2 (omega arith) (λ e. omega (arith, r.point e)) j;
+        action = read_field 3 (omega arith) (λ e. omega (arith, r.action e)) j;
+        value = read_field 4 (omega arith) (λ e. omega arith) j;
+        refusal = read_field 5 (omega arith) (λ e. omega (arith, r.refusal e)) j;
       }
 
 -- what a byte string that is read without refusal has
@@ -124,16 +124,16 @@ encoded : (map : ℕ) (f : Fields) (n : ℕ) → f.value < 2 ^ 32 → Writable m
 encoded map f n v a =
     record {
       some = ne_eqb (length (encode map f)) 0 (λ (e : length (encode map f) ≡ 0). omega (arith, start_positive map 6, length_up_to map f 6));
-      known = rw (read-map map f) a.known;
-      whole = rw (read-map map f) (length_up_to map f 6);
-      sound = rw (read-map map f, read-fields map f (judged_sound (has_bit map) f a.sound) v, judged_kept map f) a.sound;
+      known = rw (read_map map f) a.known;
+      whole = rw (read_map map f) (length_up_to map f 6);
+      sound = rw (read_map map f, read_fields map f (judged_sound (has_bit map) f a.sound) v, judged_kept map f) a.sound;
     }
 
 -- reading what was written gives the fields back: those that the map has, and 0 for the others
 pub reading_written : (map : ℕ) (f : Fields) (out : List ℕ) → f.value < 2 ^ 32 → (write_frame map f out).refused ≡ 0 → read_frame (take (write_frame map f out).written (write_frame map f out).buffer) ≡ record { refused = 0; map = map; fields = kept map f }
 reading_written map f out v e =
     let a = writable map f out e in
-    rw (written map f out a, take_at (encode map f) (drop (length_of map) out) (length_of map) (length_up_to map f 6), read_accepted (encode map f) (encoded map f (length out) v a), read-map map f, read-fields map f (judged_sound (has_bit map) f a.sound) v)
+    rw (written map f out a, take_at (encode map f) (drop (length_of map) out) (length_of map) (length_up_to map f 6), read_accepted (encode map f) (encoded map f (length out) v a), read_map map f, read_fields map f (judged_sound (has_bit map) f a.sound) v)
 
 first : (s : List ℕ) → 1 ≤ length s → get_or s 0 0 ∷ [] ≡ take 1 s
 first [] h = absurd (omega arith)
@@ -160,15 +160,15 @@ module _ (s : List ℕ) (bytes : Bytes s) where
       go true fits = write_back (width i) s (start map i) bytes fits
       go false fits = refl
 
-  written-up-to : (i : ℕ) → i ≤ 6 → start map i ≤ length s → bytes_up_to map (fields_in s map) i ≡ take (start map i) s
+  written_up_to : (i : ℕ) → i ≤ 6 → start map i ≤ length s → bytes_up_to map (fields_in s map) i ≡ take (start map i) s
   unfolding bytes_up_to start map
-  written-up-to zero h fits = first s fits
-  written-up-to (suc i) h fits =
-      ap₂ ◌++◌ (written-up-to i (omega arith) (omega arith)) (write_step i h fits) ∙ sym (take-add (start map i) (size map i) s)
+  written_up_to zero h fits = first s fits
+  written_up_to (suc i) h fits =
+      ap₂ ◌++◌ (written_up_to i (omega arith) (omega arith)) (write_step i h fits) ∙ sym (take-add (start map i) (size map i) s)
 
   written_back : Accepted s → encode map (fields_in s map) ≡ s
   unfolding map
-  written_back a = written-up-to 6 (omega arith) (omega (arith, a.whole)) ∙ ap (λ (n : ℕ). take n s) (sym a.whole) ∙ take-length s
+  written_back a = written_up_to 6 (omega arith) (omega (arith, a.whole)) ∙ ap (λ (n : ℕ). take n s) (sym a.whole) ∙ take-length s
 
 -- writing what was read gives the bytes back, at the start of any buffer that has room for them
 pub writing_read : (s out : List ℕ) → Bytes s → (read_frame s).refused ≡ 0 → length s ≤ length out → write_frame (read_frame s).map (read_frame s).fields out ≡ record { refused = 0; written = length s; buffer = s ++ drop (length s) out }

@@ -15,18 +15,18 @@ unfolding position_of
 position_inside m q i hm hi hk = rw (le-leb 1 m hm, le-leb 1 i hi, le-leb i 64 hk)
 
 module _ (m q i : ℕ) where
-  no-function : some_function m i ≡ false → position_of m q i ≡ 0
+  no_function : some_function m i ≡ false → position_of m q i ≡ 0
   unfolding position_of
-  no-function e = rw e
+  no_function e = rw e
 
-  pub position-no-slot : m ≡ 0 → position_of m q i ≡ 0
-  position-no-slot e = no-function (rw (lt-leb 1 m (omega arith)))
+  pub position_no_slot : m ≡ 0 → position_of m q i ≡ 0
+  position_no_slot e = no_function (rw (lt-leb 1 m (omega arith)))
 
-  pub position-no-index : i ≡ 0 → position_of m q i ≡ 0
-  position-no-index e = no-function (rw (lt-leb 1 i (omega arith), and-false (leb 1 m)))
+  pub position_no_index : i ≡ 0 → position_of m q i ≡ 0
+  position_no_index e = no_function (rw (lt-leb 1 i (omega arith), and-false (leb 1 m)))
 
   pub position_past : 64 < i → position_of m q i ≡ 0
-  position_past h = no-function (rw (lt-leb i 64 h, and-false (leb 1 m && leb 1 i)))
+  position_past h = no_function (rw (lt-leb i 64 h, and-false (leb 1 m && leb 1 i)))
 
 pub coefficient_inside : (j : ℕ) → 1 ≤ j → j ≤ 128 → coefficient_of j ≡ z j
 unfolding coefficient_of

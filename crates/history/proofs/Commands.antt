@@ -18,7 +18,7 @@ use Rattle.record.specs.declared.Alteration.TheVariants.{Given as Alteration-as-
 use Rattle.record.specs.declared.WriterWork.{WriterWork}
 use Rattle.record.specs.declared.WriterWork.TheVariants.{Idle, Putting, Changing, Removing}
 use Rattle.record.specs.Parts.{unheard_station, numbered, with_numbered}
-use Rattle.record.proofs.Numbered.{replaced-length, replaced-same, replaced-other}
+use Rattle.record.proofs.Numbered.{replaced_length, replaced_same, replaced_other}
 use Rattle.counting.specs.Steps.{change_counted, writer_counted}
 use Rattle.answers.specs.Answers.{Ending, stored_answer}
 use Rattle.plain_list.specs.PlainList.{Each}
@@ -163,38 +163,38 @@ module _ (stations : List Station) (sent : Sent) (acts : List Sent) (ended : Lis
   above : (last_of stations sent.station).number < sent.number
   above = omega (arith, next.next)
 
-  new-last : last_of after sent.station ≡ new
-  new-last = replaced-same stations sent.station new unheard_station next.station_low (omega (arith, next.station_high, ok.all_stations))
+  new_last : last_of after sent.station ≡ new
+  new_last = replaced_same stations sent.station new unheard_station next.station_low (omega (arith, next.station_high, ok.all_stations))
 
-  still-low : (l : List Sent) → Each (NotAbove stations) l → Each (NotAbove after) l
-  still-low [] each = tt
-  still-low (other ∷ l) each = (record { low = go (ℕ_discrete other.station sent.station) }, still-low l each.1)
+  still_low : (l : List Sent) → Each (NotAbove stations) l → Each (NotAbove after) l
+  still_low [] each = tt
+  still_low (other ∷ l) each = (record { low = go (ℕ_discrete other.station sent.station) }, still_low l each.1)
     where
       go : Dec (other.station ≡ sent.station) → other.number ≤ (last_of after other.station).number
       go (yes e) =
           let a = ap (λ (x : ℕ). (last_of after x).number) e in
           let b = ap (λ (x : ℕ). (last_of stations x).number) e in
-          let c = ap (λ (s : Station). s.number) new-last in
+          let c = ap (λ (s : Station). s.number) new_last in
           omega (arith, each.0.low, above)
       go (no e) =
-          let a = ap (λ (s : Station). s.number) (replaced-other stations sent.station new unheard_station other.station e) in
+          let a = ap (λ (s : Station). s.number) (replaced_other stations sent.station new unheard_station other.station e) in
           omega (arith, each.0.low)
 
-  mine-low : NotAbove after sent
-  mine-low = record { low = let a = ap (λ (s : Station). s.number) new-last in omega arith }
+  mine_low : NotAbove after sent
+  mine_low = record { low = let a = ap (λ (s : Station). s.number) new_last in omega arith }
 
   lasts_after : (station : ℕ) → Dec (station ≡ sent.station) → last_given station (record { sent = sent; answer = answer } ∷ ended) ≡ held_by station (last_of after station)
   unfolding last_given
   lasts_after station (yes e) =
       rw (eq-eqb sent.station station (sym e))
-      (sym (ap (held_by station) (ap (last_of after) e ∙ new-last) ∙ ap (λ (x : ℕ). held_by x new) e ∙ ap (λ (a : Ending). record { sent = sent; answer = a }) same))
+      (sym (ap (held_by station) (ap (last_of after) e ∙ new_last) ∙ ap (λ (x : ℕ). held_by x new) e ∙ ap (λ (a : Ending). record { sent = sent; answer = a }) same))
   lasts_after station (no e) =
       rw (ne_eqb sent.station station (λ x. e (sym x)))
-      (ok.lasts station ∙ ap (held_by station) (sym (replaced-other stations sent.station new unheard_station station e)))
+      (ok.lasts station ∙ ap (held_by station) (sym (replaced_other stations sent.station new unheard_station station e)))
 
-  acts-after : (acted : Bool) → Each (NotAbove after) (cond acted (sent ∷ acts) acts)
-  acts-after true = (mine-low, still-low acts ok.acts_low)
-  acts-after false = still-low acts ok.acts_low
+  acts_after : (acted : Bool) → Each (NotAbove after) (cond acted (sent ∷ acts) acts)
+  acts_after true = (mine_low, still_low acts ok.acts_low)
+  acts_after false = still_low acts ok.acts_low
 
   once_after : (acted : Bool) (station number : ℕ) → times station number (cond acted (sent ∷ acts) acts) ≤ 1
   once_after true = once_more stations sent acts ok.acts_low above ok.acts_once
@@ -204,10 +204,10 @@ module _ (stations : List Station) (sent : Sent) (acts : List Sent) (ended : Lis
   unfolding sents
   recorded acted =
       record {
-        all_stations = replaced-length stations sent.station new ∙ ok.all_stations;
+        all_stations = replaced_length stations sent.station new ∙ ok.all_stations;
         lasts = λ station. lasts_after station (ℕ_discrete station sent.station);
-        acts_low = acts-after acted;
-        ended_low = (mine-low, still-low (sents ended) ok.ended_low);
+        acts_low = acts_after acted;
+        ended_low = (mine_low, still_low (sents ended) ok.ended_low);
         acts_once = once_after acted;
         ends_once = once_more stations sent (sents ended) ok.ended_low above ok.ends_once;
         underway = tt;

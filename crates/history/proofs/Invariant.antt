@@ -24,7 +24,7 @@ use Rattle.fresh_panel.specs.FreshPanel.{make_fresh}
 use Rattle.slot_words.specs.Taken.{taken_slots}
 use Rattle.plain_list.specs.PlainList.{Rows, entry_of, nothing, largest_index}
 use Rattle.plain_list.proofs.RowLaws.{present≢absent}
-use Rattle.plain_list.proofs.IndexLaws.{countIndex}
+use Rattle.plain_list.proofs.IndexLaws.{count_index}
 use Rattle.plain_list.proofs.Agreement.{Agrees}
 use Rattle.effects.proofs.EffectLaws.{writer_left}
 use Rattle.effects.proofs.StepAgreement.{WorkOK, fed_by}
@@ -98,13 +98,13 @@ module _ (m k : ℕ) (m_low : 1 ≤ m) (m_high : m ≤ 4096) (k_low : 1 ≤ k) (
       both_true _ _ (is_within 1 m 4096 m_low m_high) (both_true _ _ (is_within 1 k 64 k_low k_high) (eq-eqb lent m whole))
 
   -- a fresh world is what making a fresh record leaves, whatever the m slots lent held
-  pub begins-fresh : (lent : List ℕ) → length lent ≡ m → make_fresh m k lent ≡ outcome (fresh_world m k).panel (fresh_world m k).slots (gives [])
+  pub begins_fresh : (lent : List ℕ) → length lent ≡ m → make_fresh m k lent ≡ outcome (fresh_world m k).panel (fresh_world m k).slots (gives [])
   unfolding make_fresh fresh_world
-  begins-fresh lent whole = rw (sizes_fit (length lent) whole, whole)
+  begins_fresh lent whole = rw (sizes_fit (length lent) whole, whole)
 
-  fresh-agrees : Agrees m k 0 (replicate 64 0) (replicate m 0) []
-  unfolding entry_of countIndex
-  fresh-agrees =
+  fresh_agrees : Agrees m k 0 (replicate 64 0) (replicate m 0) []
+  unfolding entry_of count_index
+  fresh_agrees =
       record {
         some_slot = m_low;
         some_index = k_low;
@@ -119,9 +119,9 @@ module _ (m k : ℕ) (m_low : 1 ≤ m) (m_high : m ≤ 4096) (k_low : 1 ≤ k) (
         room = sym (none_taken m);
       }
 
-  fresh-commands : CommandsOK (replicate 32 unheard_station) [] [] []
+  fresh_commands : CommandsOK (replicate 32 unheard_station) [] [] []
   unfolding sents times last_given stored_answer
-  fresh-commands =
+  fresh_commands =
       record {
         all_stations = refl;
         lasts = λ station. ap (held_by station) (sym (all_unheard station));
@@ -132,24 +132,24 @@ module _ (m k : ℕ) (m_low : 1 ≤ m) (m_high : m ≤ 4096) (k_low : 1 ≤ k) (
         underway = tt;
       }
 
-  all-idle : (n : ℕ) → work_of (fresh_record m k) n ≡ ReaderWork-as-Idle
+  all_idle : (n : ℕ) → work_of (fresh_record m k) n ≡ ReaderWork-as-Idle
   unfolding work_of fresh_record
-  all-idle n = ap (λ (r : Reader). r.work) (replicated 16 n idle_reader)
+  all_idle n = ap (λ (r : Reader). r.work) (replicated 16 n idle_reader)
 
-  pub fresh-inv : Inv m k (fresh_world m k)
+  pub fresh_inv : Inv m k (fresh_world m k)
   unfolding fresh_world fresh_record fresh_log command_of no_writer_notes
-  fresh-inv =
+  fresh_inv =
       record {
         m_is = refl;
         k_is = refl;
         fits = fresh_in_range m k (length empty) (sizes_fit (length empty) (length-replicate m 0));
         all_readers = refl;
-        agrees = fresh-agrees;
+        agrees = fresh_agrees;
         work = inl refl;
         writer = idle_noted m k 0 [];
         counted = refl;
-        reading = λ n. sym (ap reading_of (all-idle n));
-        readers = λ n. subst (λ (w : ReaderWork). ReaderOK m k [] no_reader_notes w) (sym (all-idle n)) refl;
-        commands = fresh-commands;
+        reading = λ n. sym (ap reading_of (all_idle n));
+        readers = λ n. subst (λ (w : ReaderWork). ReaderOK m k [] no_reader_notes w) (sym (all_idle n)) refl;
+        commands = fresh_commands;
         place = refl;
       }

@@ -18,7 +18,7 @@ use Rattle.calls.specs.declared.Call.{Call}
 use Rattle.history.specs.Log.{Role, reader_start, reader_step, writer_start, writer_step, role_of, writing_after, reading_after, ended_by, ended_now, log_after, is_idle, is_nothing}
 use Rattle.history.specs.World.{TurnNotes, World, stores_now, ends_now, feeds_now, rows_now, writer_now, witnessed, reader_now, noted}
 use Rattle.history.specs.Claim.{refusal_due, CarriedOut, AnsweredBy, Right}
-use Rattle.history.proofs.Readers.{ReaderOK, reading_of, reader-on}
+use Rattle.history.proofs.Readers.{ReaderOK, reading_of, reader_on}
 use Rattle.history.proofs.Invariant.{Inv}
 
 -- what a call must come to
@@ -71,14 +71,14 @@ module _ (world : World) (inv : Inv world.panel.m world.panel.k world) where
   abbrev slots : List ℕ
   slots = world.slots
 
-  pub reader-is-idle : (reader : ℕ) → is_reader_idle (work_of panel reader) ≡ is_idle (world.log.readers reader)
-  reader-is-idle reader = sym (ap is_idle (inv.reading reader) ∙ reader_idle (work_of panel reader))
+  pub reader_is_idle : (reader : ℕ) → is_reader_idle (work_of panel reader) ≡ is_idle (world.log.readers reader)
+  reader_is_idle reader = sym (ap is_idle (inv.reading reader) ∙ reader_idle (work_of panel reader))
 
-  pub writer-is-idle : is_writer_idle panel.writer.work ≡ is_nothing world.log.writer.operation
-  writer-is-idle = sym (ap is_nothing inv.writer.operation ∙ writer_idle panel.writer.work)
+  pub writer_is_idle : is_writer_idle panel.writer.work ≡ is_nothing world.log.writer.operation
+  writer_is_idle = sym (ap is_nothing inv.writer.operation ∙ writer_idle panel.writer.work)
 
   pub still : (n : ℕ) → ReaderOK m k world.rows (witnessed (world.readers n) world.rows) (work_of panel n)
-  still n = reader-on m k world.rows world.rows (world.readers n) (steady_same world.rows) (work_of panel n) (inv.readers n)
+  still n = reader_on m k world.rows world.rows (world.readers n) (steady_same world.rows) (work_of panel n) (inv.readers n)
 
   pub waits : (turns : ℕ → TurnNotes) → Inv m k (unchanged world turns)
   waits turns =
@@ -97,26 +97,26 @@ module _ (world : World) (inv : Inv world.panel.m world.panel.k world) where
         place = inv.place;
       }
 
-  refused-waits : (role : Role) (n : ℕ) → Inv m k (noted world role (outcome panel slots (refused n)))
+  refused_waits : (role : Role) (n : ℕ) → Inv m k (noted world role (outcome panel slots (refused n)))
   unfolding noted rows_now feeds_now stores_now ends_now writer_now reader_now log_after writing_after reading_after ended_by ended_now either both
-  refused-waits (reader_start reader begun) n = waits _
-  refused-waits (reader_step reader) n = waits _
-  refused-waits (writer_start begun) n = waits _
-  refused-waits writer_step n = waits _
+  refused_waits (reader_start reader begun) n = waits _
+  refused_waits (reader_step reader) n = waits _
+  refused_waits (writer_start begun) n = waits _
+  refused_waits writer_step n = waits _
 
   -- a refused call
-  pub refused-kept : (call : Call) (frame : List ℕ) (n : ℕ) → refusal_due world.log call frame ≡ suc n → Kept world call frame (outcome panel slots (refused (suc n)))
+  pub refused_kept : (call : Call) (frame : List ℕ) (n : ℕ) → refusal_due world.log call frame ≡ suc n → Kept world call frame (outcome panel slots (refused (suc n)))
   unfolding noted
-  refused-kept call frame n due =
+  refused_kept call frame n due =
       record {
-        inv = refused-waits (role_of call frame (refused (suc n))) (suc n);
+        inv = refused_waits (role_of call frame (refused (suc n))) (suc n);
         right = subst (λ (d : ℕ). AnsweredBy d m k world (noted world (role_of call frame (refused (suc n))) (outcome panel slots (refused (suc n)))) call frame (refused (suc n))) (sym due)
             (refl, record { record_stays = refl; slots_stay = refl });
       }
 
   -- a call that is carried out
-  pub done-kept : (call : Call) (frame : List ℕ) (after : Outcome) → refusal_due world.log call frame ≡ 0 → Done world call frame after → Kept world call frame after
-  done-kept call frame after due done =
+  pub done_kept : (call : Call) (frame : List ℕ) (after : Outcome) → refusal_due world.log call frame ≡ 0 → Done world call frame after → Kept world call frame after
+  done_kept call frame after due done =
       record {
         inv = done.inv;
         right = subst (λ (d : ℕ). AnsweredBy d m k world (noted world (role_of call frame after.answer) after) call frame after.answer) (sym due) done.carried_out;
@@ -125,5 +125,5 @@ module _ (world : World) (inv : Inv world.panel.m world.panel.k world) where
   -- a call whose refusal is the one due
   pub judged : (call : Call) (frame : List ℕ) (n : ℕ) (after : Outcome) → n ≡ refusal_due world.log call frame → (n ≡ 0 → Done world call frame after) → Kept world call frame (unless_refused n (outcome panel slots) after)
   unfolding unless_refused
-  judged call frame zero after due done = done-kept call frame after (sym due) (done refl)
-  judged call frame (suc n) after due done = refused-kept call frame n (sym due)
+  judged call frame zero after due done = done_kept call frame after (sym due) (done refl)
+  judged call frame (suc n) after due done = refused_kept call frame n (sym due)

@@ -8,27 +8,27 @@ use Rattle.calls.specs.Calls.{applied}
 use Rattle.history.specs.Log.{Request, role_of}
 use Rattle.history.specs.World.{World, outcome_of, next, fresh_world}
 use Rattle.history.specs.Claim.{Right, StepInTurn, WorldRight, Holds, ArgumentsFit, AllFit, Demand3}
-use Rattle.history.proofs.Invariant.{Inv, fresh-inv}
+use Rattle.history.proofs.Invariant.{Inv, fresh_inv}
 use Rattle.history.proofs.Kept.{Kept}
-use Rattle.history.proofs.ReaderCalls.{lookup-kept, walk_kept, step_kept as reader-step-kept}
-use Rattle.history.proofs.WriterStarts.{put-kept, change-kept, removal-kept, command-kept}
+use Rattle.history.proofs.ReaderCalls.{lookup_kept, walk_kept, step_kept as reader-step-kept}
+use Rattle.history.proofs.WriterStarts.{put_kept, change_kept, removal_kept, command_kept}
 use Rattle.history.proofs.WriterSteps.{step_kept as writer-step-kept}
-use Rattle.history.proofs.TurnCalls.{turn-kept}
-use Rattle.history.proofs.Turns.{TurnsOK, turns-kept, fresh_turns}
-use Rattle.history.proofs.InTurn.{made, world-right, step-in-turn}
+use Rattle.history.proofs.TurnCalls.{turn_kept}
+use Rattle.history.proofs.Turns.{TurnsOK, turns_kept, fresh_turns}
+use Rattle.history.proofs.InTurn.{made, world_right, step_in_turn}
 
 -- each call, by its definition
 call_kept : (world : World) → Inv world.panel.m world.panel.k world → (call : Call) (frame : List ℕ) → ArgumentsFit call → Kept world call frame (applied world.panel world.slots call frame)
 unfolding applied
-call_kept world inv (StartLookup reader point) frame fit = lookup-kept world inv reader point frame
+call_kept world inv (StartLookup reader point) frame fit = lookup_kept world inv reader point frame
 call_kept world inv (StartWalk reader) frame fit = walk_kept world inv reader frame
 call_kept world inv (StepReader reader) frame fit = reader-step-kept world inv reader frame
-call_kept world inv (StartPut point value) frame fit = put-kept world inv point value frame fit.1
-call_kept world inv (StartChange point keep flip) frame fit = change-kept world inv point keep flip frame fit.2
-call_kept world inv (StartRemoval point) frame fit = removal-kept world inv point frame
-call_kept world inv StartCommand frame fit = command-kept world inv frame
+call_kept world inv (StartPut point value) frame fit = put_kept world inv point value frame fit.1
+call_kept world inv (StartChange point keep flip) frame fit = change_kept world inv point keep flip frame fit.2
+call_kept world inv (StartRemoval point) frame fit = removal_kept world inv point frame
+call_kept world inv StartCommand frame fit = command_kept world inv frame
 call_kept world inv StepWriter frame fit = writer-step-kept world inv frame
-call_kept world inv Turn frame fit = turn-kept world inv frame
+call_kept world inv Turn frame fit = turn_kept world inv frame
 
 -- what holds of a world all along: the invariant, and what is kept of the turns
 pub record Along (m k : ℕ) (world : World) : Type 0 where
@@ -57,16 +57,16 @@ next_kept m k world request along fit =
     let kept = call_kept world own request.call request.frame fit in
     let calls = made world.panel.m world.panel.k world _ along.turns.place_low request.call request.frame _ kept.right in
     record {
-      along = record { inv = kept.inv; turns = turns-kept world along.turns _ _ calls };
+      along = record { inv = kept.inv; turns = turns_kept world along.turns _ _ calls };
       right = kept.right;
-      steps_in_turn = step-in-turn world own along.turns _ _ calls;
+      steps_in_turn = step_in_turn world own along.turns _ _ calls;
     })
 
 holds : (m k : ℕ) (world : World) (requests : List Request) → Along m k world → AllFit requests → Holds m k world requests
-holds m k world [] along fit = own_sizes m k world (λ (x y : ℕ). WorldRight x y world) along.inv (λ own. world-right world own along.turns)
+holds m k world [] along fit = own_sizes m k world (λ (x y : ℕ). WorldRight x y world) along.inv (λ own. world_right world own along.turns)
 holds m k world (request ∷ rest) along fit =
     let after = next_kept m k world request along fit.0.0 in (
-      own_sizes m k world (λ (x y : ℕ). WorldRight x y world) along.inv (λ own. world-right world own along.turns),
+      own_sizes m k world (λ (x y : ℕ). WorldRight x y world) along.inv (λ own. world_right world own along.turns),
       after.right,
       after.steps_in_turn,
       holds m k (next world request) rest after.along fit.1,
@@ -74,7 +74,7 @@ holds m k world (request ∷ rest) along fit =
 
 -- a fresh world
 pub fresh_along : (m k : ℕ) → 1 ≤ m → m ≤ 4096 → 1 ≤ k → k ≤ 64 → Along m k (fresh_world m k)
-fresh_along m k m_low m_high k_low k_high = record { inv = fresh-inv m k m_low m_high k_low k_high; turns = fresh_turns m k }
+fresh_along m k m_low m_high k_low k_high = record { inv = fresh_inv m k m_low m_high k_low k_high; turns = fresh_turns m k }
 
 -- "Demand 3 is a single claim, for every m and k in range, about every whole list of these calls with any arguments"
 pub demand_3 : Demand3

@@ -14,20 +14,20 @@ use Rattle.refusal.proofs.Laws.{not_refused}
 use Rattle.record.specs.declared.Record.{Record}
 use Rattle.record.specs.Parts.{work_of, with_place}
 use Rattle.record_ranges.specs.Ranges.{in_range}
-use Rattle.record_ranges.proofs.Laws.{fields, with-place-in-range}
+use Rattle.record_ranges.proofs.Laws.{fields, with_place_in_range}
 use Rattle.answers.specs.Answers.{served, Outcome}
 use Rattle.reader_step.specs.Reader.{step_reader}
 use Rattle.writer.specs.Step.{step_writer}
 use Rattle.circle.specs.Circle.{nobody, party_after, party_due, is_at_work, party_served}
 use Rattle.dispatcher.specs.Turn.{turn_refusal, party_step, after_turn, take_turn}
 use Rattle.circle.proofs.CircleLaws.{after_low, same_party, Due}
-use Rattle.dispatcher.proofs.TurnLaws.{someone-or-nobody}
+use Rattle.dispatcher.proofs.TurnLaws.{someone_or_nobody}
 use Rattle.calls.specs.declared.Call.TheVariants.{StepReader, StepWriter, Turn}
 use Rattle.history.specs.Log.{reader_step, writer_step, has_work, due_in, step_of, role_of, writing_after, reading_after, ended_by, ended_now, log_after, is_idle, is_nothing}
 use Rattle.history.specs.World.{TurnNotes, World, stores_now, ends_now, feeds_now, rows_now, writer_stepped, writer_now, word_given, stepped_reader, reader_now, noted}
 use Rattle.history.specs.Claim.{refusal_due, PartyRight, TurnRight, serves, AnsweredBy}
 use Rattle.history.proofs.Invariant.{Inv}
-use Rattle.history.proofs.Kept.{Kept, Done, reader-is-idle, writer-is-idle, judged}
+use Rattle.history.proofs.Kept.{Kept, Done, reader_is_idle, writer_is_idle, judged}
 use Rattle.history.proofs.ReaderCalls.{step_kept as reader-step-kept}
 use Rattle.history.proofs.WriterSteps.{step_kept as writer-step-kept}
 
@@ -45,24 +45,24 @@ module _ (world : World) (inv : Inv world.panel.m world.panel.k world) where
   slots = world.slots
 
   -- who has work by the log has it in the record, so the party due is the same
-  work-same : (party : ℕ) → party ≤ 16 → is_at_work panel party ≡ has_work world.log party
+  work_same : (party : ℕ) → party ≤ 16 → is_at_work panel party ≡ has_work world.log party
   unfolding is_at_work has_work
-  work-same zero low = ap not (writer-is-idle world inv)
-  work-same (suc reader) low = ap not (reader-is-idle world inv reader)
+  work_same zero low = ap not (writer_is_idle world inv)
+  work_same (suc reader) low = ap not (reader_is_idle world inv reader)
 
   place_low : panel.place ≤ 16
   place_low = (fields (length slots) panel inv.fits).place_fits
 
-  due-same : party_served panel ≡ due_in world.log
+  due_same : party_served panel ≡ due_in world.log
   unfolding party_served due_in party_due
-  due-same =
-      same_party (is_at_work panel) (has_work world.log) work-same 17 panel.place place_low
+  due_same =
+      same_party (is_at_work panel) (has_work world.log) work_same 17 panel.place place_low
       ∙ ap (party_due (has_work world.log)) (sym inv.place)
 
   -- "A turn tests 1, then gives 5"
-  turn-due : (frame : List ℕ) → turn_refusal (length slots) panel ≡ refusal_due world.log Turn frame
+  turn_due : (frame : List ℕ) → turn_refusal (length slots) panel ≡ refusal_due world.log Turn frame
   unfolding turn_refusal refusal_due refuse_if
-  turn-due frame = rw (inv.fits, due-same)
+  turn_due frame = rw (inv.fits, due_same)
 
   -- a world with another place, and with whatever is noted of the turns
   abbrev moved_to : World → ℕ → (ℕ → TurnNotes) → World
@@ -78,13 +78,13 @@ module _ (world : World) (inv : Inv world.panel.m world.panel.k world) where
         acts = w.acts;
       }
 
-  moved-inv : (w : World) (place : ℕ) (turns : ℕ → TurnNotes) → place ≤ 16 → Inv m k w → Inv m k (moved_to w place turns)
+  moved_inv : (w : World) (place : ℕ) (turns : ℕ → TurnNotes) → place ≤ 16 → Inv m k w → Inv m k (moved_to w place turns)
   unfolding with_place work_of
-  moved-inv w place turns low i =
+  moved_inv w place turns low i =
       record {
         m_is = i.m_is;
         k_is = i.k_is;
-        fits = with-place-in-range (length w.slots) w.panel i.fits place low;
+        fits = with_place_in_range (length w.slots) w.panel i.fits place low;
         all_readers = i.all_readers;
         agrees = i.agrees;
         work = i.work;
@@ -98,27 +98,27 @@ module _ (world : World) (inv : Inv world.panel.m world.panel.k world) where
 
   -- the world of a turn is that of the step, but for these
   module _ (step : Outcome) (party : ℕ) where
-    writer-turn-inv : Inv m k (noted world writer_step step) → Inv m k (noted world writer_step (after_turn party step))
+    writer_turn_inv : Inv m k (noted world writer_step step) → Inv m k (noted world writer_step (after_turn party step))
     unfolding noted rows_now feeds_now stores_now ends_now writer_stepped writer_now reader_now log_after writing_after reading_after ended_by ended_now after_turn
-    writer-turn-inv i = moved-inv (noted world writer_step step) (party_after party) _ (after_low party) i
+    writer_turn_inv i = moved_inv (noted world writer_step step) (party_after party) _ (after_low party) i
 
-    reader-turn-inv : (reader : ℕ) → Inv m k (noted world (reader_step reader) step) → Inv m k (noted world (reader_step reader) (after_turn party step))
+    reader_turn_inv : (reader : ℕ) → Inv m k (noted world (reader_step reader) step) → Inv m k (noted world (reader_step reader) (after_turn party step))
     unfolding noted rows_now feeds_now stores_now ends_now word_given stepped_reader writer_now reader_now log_after writing_after reading_after ended_now after_turn
-    reader-turn-inv reader i = moved-inv (noted world (reader_step reader) step) (party_after party) _ (after_low party) i
+    reader_turn_inv reader i = moved_inv (noted world (reader_step reader) step) (party_after party) _ (after_low party) i
 
   -- the party's own step is not refused
-  writer-allowed : (frame : List ℕ) → is_nothing world.log.writer.operation ≡ false → refusal_due world.log StepWriter frame ≡ 0
+  writer_allowed : (frame : List ℕ) → is_nothing world.log.writer.operation ≡ false → refusal_due world.log StepWriter frame ≡ 0
   unfolding refusal_due refuse_if
-  writer-allowed frame busy = rw busy
+  writer_allowed frame busy = rw busy
 
-  reader-allowed : (reader : ℕ) (frame : List ℕ) → reader ≤ 15 → is_idle (world.log.readers reader) ≡ false → refusal_due world.log (StepReader reader) frame ≡ 0
+  reader_allowed : (reader : ℕ) (frame : List ℕ) → reader ≤ 15 → is_idle (world.log.readers reader) ≡ false → refusal_due world.log (StepReader reader) frame ≡ 0
   unfolding refusal_due refuse_if
-  reader-allowed reader frame low busy = rw (le-ltb 15 reader low, busy)
+  reader_allowed reader frame low busy = rw (le-ltb 15 reader low, busy)
 
   -- from what is shown of the step to what is asked of the turn
-  turn-given : (frame : List ℕ) (step : Outcome) (party : ℕ) → party ≡ due_in world.log → Inv m k (noted world (step_of party) (after_turn party step)) → PartyRight m k world (noted world (step_of party) (after_turn party step)) party step.answer → Done world Turn frame (after_turn party step)
+  turn_given : (frame : List ℕ) (step : Outcome) (party : ℕ) → party ≡ due_in world.log → Inv m k (noted world (step_of party) (after_turn party step)) → PartyRight m k world (noted world (step_of party) (after_turn party step)) party step.answer → Done world Turn frame (after_turn party step)
   unfolding role_of after_turn
-  turn-given frame step party is holds right =
+  turn_given frame step party is holds right =
       record {
         inv = holds;
         carried_out =
@@ -127,47 +127,47 @@ module _ (world : World) (inv : Inv world.panel.m world.panel.k world) where
       }
 
   -- what is kept and right of the step itself
-  writer-kept : (frame : List ℕ) → Kept world StepWriter frame (step_writer panel slots) → Inv m k (noted world writer_step (step_writer panel slots))
+  writer_kept : (frame : List ℕ) → Kept world StepWriter frame (step_writer panel slots) → Inv m k (noted world writer_step (step_writer panel slots))
   unfolding role_of
-  writer-kept frame kept = kept.inv
+  writer_kept frame kept = kept.inv
 
-  writer-right : (frame : List ℕ) → Kept world StepWriter frame (step_writer panel slots) → refusal_due world.log StepWriter frame ≡ 0 → PartyRight m k world (noted world writer_step (after_turn 0 (step_writer panel slots))) 0 (step_writer panel slots).answer
+  writer_right : (frame : List ℕ) → Kept world StepWriter frame (step_writer panel slots) → refusal_due world.log StepWriter frame ≡ 0 → PartyRight m k world (noted world writer_step (after_turn 0 (step_writer panel slots))) 0 (step_writer panel slots).answer
   unfolding role_of
-  writer-right frame kept due =
+  writer_right frame kept due =
       subst (λ (d : ℕ). AnsweredBy d m k world (noted world writer_step (step_writer panel slots)) StepWriter frame (step_writer panel slots).answer) due kept.right
 
-  reader-kept : (reader : ℕ) (frame : List ℕ) → Kept world (StepReader reader) frame (step_reader panel slots reader) → Inv m k (noted world (reader_step reader) (step_reader panel slots reader))
+  reader_kept : (reader : ℕ) (frame : List ℕ) → Kept world (StepReader reader) frame (step_reader panel slots reader) → Inv m k (noted world (reader_step reader) (step_reader panel slots reader))
   unfolding role_of
-  reader-kept reader frame kept = kept.inv
+  reader_kept reader frame kept = kept.inv
 
-  reader-right : (reader : ℕ) (frame : List ℕ) → Kept world (StepReader reader) frame (step_reader panel slots reader) → refusal_due world.log (StepReader reader) frame ≡ 0 → PartyRight m k world (noted world (reader_step reader) (after_turn (suc reader) (step_reader panel slots reader))) (suc reader) (step_reader panel slots reader).answer
+  reader_right : (reader : ℕ) (frame : List ℕ) → Kept world (StepReader reader) frame (step_reader panel slots reader) → refusal_due world.log (StepReader reader) frame ≡ 0 → PartyRight m k world (noted world (reader_step reader) (after_turn (suc reader) (step_reader panel slots reader))) (suc reader) (step_reader panel slots reader).answer
   unfolding role_of noted rows_now feeds_now stores_now ends_now either both
-  reader-right reader frame kept due =
+  reader_right reader frame kept due =
       subst (λ (d : ℕ). AnsweredBy d m k world (noted world (reader_step reader) (step_reader panel slots reader)) (StepReader reader) frame (step_reader panel slots reader).answer) due kept.right
 
   -- the turn that is due to the writer or to a reader
-  turn-done : (frame : List ℕ) (party : ℕ) → party ≡ due_in world.log → party ≤ 16 → has_work world.log party ≡ true → Done world Turn frame (after_turn party (party_step panel slots party))
+  turn_done : (frame : List ℕ) (party : ℕ) → party ≡ due_in world.log → party ≤ 16 → has_work world.log party ≡ true → Done world Turn frame (after_turn party (party_step panel slots party))
   unfolding has_work party_step
-  turn-done frame zero is low works =
+  turn_done frame zero is low works =
       let step = step_writer panel slots in
       let kept = writer-step-kept world inv frame in
-      turn-given frame step 0 is (writer-turn-inv step 0 (writer-kept frame kept))
-      (writer-right frame kept (writer-allowed frame (not-true _ works)))
-  turn-done frame (suc reader) is low works =
+      turn_given frame step 0 is (writer_turn_inv step 0 (writer_kept frame kept))
+      (writer_right frame kept (writer_allowed frame (not-true _ works)))
+  turn_done frame (suc reader) is low works =
       let step = step_reader panel slots reader in
       let kept = reader-step-kept world inv reader frame in
-      turn-given frame step (suc reader) is (reader-turn-inv step (suc reader) reader (reader-kept reader frame kept))
-      (reader-right reader frame kept (reader-allowed reader frame (omega arith) (not-true _ works)))
+      turn_given frame step (suc reader) is (reader_turn_inv step (suc reader) reader (reader_kept reader frame kept))
+      (reader_right reader frame kept (reader_allowed reader frame (omega arith) (not-true _ works)))
 
-  by-party : (frame : List ℕ) → (party_served panel ≡ nobody → ⊥) → (party_served panel ≡ nobody) ⊎ Due (is_at_work panel) (party_served panel) → Done world Turn frame (after_turn (party_served panel) (party_step panel slots (party_served panel)))
-  by-party frame some (inl none) = absurd (some none)
-  by-party frame some (inr d) = turn-done frame (party_served panel) due-same d.low (sym (work-same (party_served panel) d.low) ∙ d.has_some_work)
+  by_party : (frame : List ℕ) → (party_served panel ≡ nobody → ⊥) → (party_served panel ≡ nobody) ⊎ Due (is_at_work panel) (party_served panel) → Done world Turn frame (after_turn (party_served panel) (party_step panel slots (party_served panel)))
+  by_party frame some (inl none) = absurd (some none)
+  by_party frame some (inr d) = turn_done frame (party_served panel) due_same d.low (sym (work_same (party_served panel) d.low) ∙ d.has_some_work)
 
-  pub turn-kept : (frame : List ℕ) → Kept world Turn frame (take_turn panel slots)
+  pub turn_kept : (frame : List ℕ) → Kept world Turn frame (take_turn panel slots)
   unfolding take_turn turn_refusal
-  turn-kept frame =
-      judged world inv Turn frame (turn_refusal (length slots) panel) _ (turn-due frame)
+  turn_kept frame =
+      judged world inv Turn frame (turn_refusal (length slots) panel) _ (turn_due frame)
       (λ allowed.
       let a = not_refused (not (in_range (length slots) panel)) 1 _ (omega arith) allowed in
       let b = not_refused (eqb (party_served panel) nobody) 5 0 (omega arith) a.1 in
-      by-party frame (eqb-false (party_served panel) nobody b.0) (someone-or-nobody panel slots inv.fits))
+      by_party frame (eqb-false (party_served panel) nobody b.0) (someone_or_nobody panel slots inv.fits))

@@ -18,7 +18,7 @@ use Rattle.circle.proofs.CircleLaws.{gap, gap_low, after_low, someone_due}
 use Rattle.plain_list.specs.PlainList.{nothing}
 use Rattle.history.specs.Log.{Reading, idle, Writing, writing, Role, reader_start, writer_start, Log, is_idle, is_nothing, has_work, due_in, step_of, writing_after, reading_after, served_by, place_moved, log_after, fresh_log}
 use Rattle.history.specs.World.{ReaderNotes, TurnNotes, no_turns, World, stepped_writer, writer_stepped, writer_now, stepped_reader, reader_now, turns_passed, turns_now, steps_of, noted, fresh_world}
-use Rattle.history.proofs.Readers.{steps-stay}
+use Rattle.history.proofs.Readers.{steps_stay}
 
 -- what holds of a party at work
 pub record PartyOK (place party steps : ℕ) (notes : TurnNotes) : Type 0 where
@@ -92,25 +92,25 @@ module _ (world : World) (after : Outcome) where
   abbrev answer : Answer
   answer = after.answer
 
-  own-steps : (party : ℕ) → is_refused answer ≡ false → has_ended answer ≡ false → steps_of (noted world (step_of party) after) party ≡ steps_of world party + 1
+  own_steps : (party : ℕ) → is_refused answer ≡ false → has_ended answer ≡ false → steps_of (noted world (step_of party) after) party ≡ steps_of world party + 1
   unfolding noted writer_now writer_stepped stepped_writer reader_now stepped_reader both
-  own-steps zero given on = rw (given, on)
-  own-steps (suc reader) given on = chosen (λ (n : ReaderNotes). n.steps ≡ (world.readers reader).steps + 1) (is_refused answer) (eqb reader reader) (has_ended answer) _ _ _ given (eq-eqb reader reader refl) on refl
+  own_steps zero given on = rw (given, on)
+  own_steps (suc reader) given on = chosen (λ (n : ReaderNotes). n.steps ≡ (world.readers reader).steps + 1) (is_refused answer) (eqb reader reader) (has_ended answer) _ _ _ given (eq-eqb reader reader refl) on refl
 
-  other-steps : (party other : ℕ) → other ≢ party → steps_of (noted world (step_of party) after) other ≡ steps_of world other
+  other_steps : (party other : ℕ) → other ≢ party → steps_of (noted world (step_of party) after) other ≡ steps_of world other
   unfolding noted writer_now reader_now
-  other-steps zero zero h = absurd (h refl)
-  other-steps zero (suc n) h = steps-stay (world.readers n) _
-  other-steps (suc reader) zero h = refl
-  other-steps (suc reader) (suc n) h =
-      not_chosen (λ (notes : ReaderNotes). notes.steps ≡ (world.readers n).steps) (not (is_refused answer)) (eqb reader n) _ _ (ne_eqb reader n (λ same. h (omega arith))) (steps-stay (world.readers n) _)
+  other_steps zero zero h = absurd (h refl)
+  other_steps zero (suc n) h = steps_stay (world.readers n) _
+  other_steps (suc reader) zero h = refl
+  other_steps (suc reader) (suc n) h =
+      not_chosen (λ (notes : ReaderNotes). notes.steps ≡ (world.readers n).steps) (not (is_refused answer)) (eqb reader n) _ _ (ne_eqb reader n (λ same. h (omega arith))) (steps_stay (world.readers n) _)
 
-  refused-steps : (party other : ℕ) → is_refused answer ≡ true → steps_of (noted world (step_of party) after) other ≡ steps_of world other
+  refused_steps : (party other : ℕ) → is_refused answer ≡ true → steps_of (noted world (step_of party) after) other ≡ steps_of world other
   unfolding noted writer_now reader_now both
-  refused-steps zero zero e = rw e
-  refused-steps zero (suc n) e = steps-stay (world.readers n) _
-  refused-steps (suc reader) zero e = refl
-  refused-steps (suc reader) (suc n) e = rw e (steps-stay (world.readers n) _)
+  refused_steps zero zero e = rw e
+  refused_steps zero (suc n) e = steps_stay (world.readers n) _
+  refused_steps (suc reader) zero e = refl
+  refused_steps (suc reader) (suc n) e = rw e (steps_stay (world.readers n) _)
 
 -- ---- what holds of a party goes on to hold
 -- a party that has been started
@@ -166,31 +166,31 @@ module _ (world : World) (ok : TurnsOK world) (after : Outcome) where
   abbrev given : Answer
   given = after.answer
 
-  abbrev served-by : List ℕ
-  served-by = served_by after.answer
+  abbrev served_by_lem : List ℕ
+  served_by_lem = served_by after.answer
 
   -- after a start, or a call that has started nothing
-  reader-began-ok : (reader : ℕ) (begun : Reading) (party : ℕ) → party ≤ 16 → has_work (log_after log (reader_start reader begun) given) party ≡ true → PartyOK log.place party (steps_of (noted world (reader_start reader begun) after) party) (turns_now given (reader_start reader begun) party (world.turns party))
+  reader_began_ok : (reader : ℕ) (begun : Reading) (party : ℕ) → party ≤ 16 → has_work (log_after log (reader_start reader begun) given) party ≡ true → PartyOK log.place party (steps_of (noted world (reader_start reader begun) after) party) (turns_now given (reader_start reader begun) party (world.turns party))
   unfolding noted log_after turns_now has_work writing_after reading_after writer_now reader_now
-  reader-began-ok reader begun zero inside works =
+  reader_began_ok reader begun zero inside works =
       begun_ok (both (is_started given) (eqb (suc reader) 0)) log.place 0 _ (world.turns 0) ok.place_low inside (λ e. ok.each 0 inside works)
-  reader-began-ok reader begun (suc n) inside works =
+  reader_began_ok reader begun (suc n) inside works =
       begun_ok (both (is_started given) (eqb (suc reader) (suc n))) log.place (suc n) _ (world.turns (suc n)) ok.place_low inside
       (λ e.
-      subst (λ (made : ℕ). PartyOK log.place (suc n) made (world.turns (suc n))) (sym (steps-stay (world.readers n) _))
+      subst (λ (made : ℕ). PartyOK log.place (suc n) made (world.turns (suc n))) (sym (steps_stay (world.readers n) _))
       (ok.each (suc n) inside (reader_began (both (is_started given) (eqb reader n)) begun (log.readers n) works (ap (both (is_started given)) (sym (suc_eqb reader n)) ∙ e))))
 
-  writer-began-ok : (begun : Writing) (party : ℕ) → party ≤ 16 → has_work (log_after log (writer_start begun) given) party ≡ true → PartyOK log.place party (steps_of (noted world (writer_start begun) after) party) (turns_now given (writer_start begun) party (world.turns party))
+  writer_began_ok : (begun : Writing) (party : ℕ) → party ≤ 16 → has_work (log_after log (writer_start begun) given) party ≡ true → PartyOK log.place party (steps_of (noted world (writer_start begun) after) party) (turns_now given (writer_start begun) party (world.turns party))
   unfolding noted log_after turns_now has_work writing_after reading_after writer_now reader_now
-  writer-began-ok begun zero inside works =
+  writer_began_ok begun zero inside works =
       begun_ok (both (is_started given) (eqb 0 0)) log.place 0 _ (world.turns 0) ok.place_low inside
       (λ e. ok.each 0 inside (writer_began (is_started given) begun log.writer works (sym (both_with (is_started given) true refl) ∙ e)))
-  writer-began-ok begun (suc n) inside works =
+  writer_began_ok begun (suc n) inside works =
       begun_ok (both (is_started given) (eqb 0 (suc n))) log.place (suc n) _ (world.turns (suc n)) ok.place_low inside
-      (λ e. subst (λ (made : ℕ). PartyOK log.place (suc n) made (world.turns (suc n))) (sym (steps-stay (world.readers n) _)) (ok.each (suc n) inside works))
+      (λ e. subst (λ (made : ℕ). PartyOK log.place (suc n) made (world.turns (suc n))) (sym (steps_stay (world.readers n) _)) (ok.each (suc n) inside works))
 
   -- what has been shown at the place before the call, where no party was served
-  unserved : (role : Role) → served-by ≡ [] → ((party : ℕ) → party ≤ 16 → has_work (log_after log role given) party ≡ true → PartyOK log.place party (steps_of (noted world role after) party) (turns_now given role party (world.turns party))) → TurnsOK (noted world role after)
+  unserved : (role : Role) → served_by_lem ≡ [] → ((party : ℕ) → party ≤ 16 → has_work (log_after log role given) party ≡ true → PartyOK log.place party (steps_of (noted world role after) party) (turns_now given role party (world.turns party))) → TurnsOK (noted world role after)
   unfolding noted log_after
   unserved role none all =
       record {
@@ -199,69 +199,69 @@ module _ (world : World) (ok : TurnsOK world) (after : Outcome) where
       }
 
   -- a step that was refused
-  refused-ok : (party : ℕ) → is_refused given ≡ true → served-by ≡ [] → (other : ℕ) → other ≤ 16 → has_work (log_after log (step_of party) given) other ≡ true → PartyOK log.place other (steps_of (noted world (step_of party) after) other) (turns_now given (step_of party) other (world.turns other))
-  refused-ok party gone none other inside works =
-      subst (λ (made : ℕ). PartyOK log.place other made (turns_now given (step_of party) other (world.turns other))) (sym (refused-steps world after party other gone))
+  refused_ok : (party : ℕ) → is_refused given ≡ true → served_by_lem ≡ [] → (other : ℕ) → other ≤ 16 → has_work (log_after log (step_of party) given) other ≡ true → PartyOK log.place other (steps_of (noted world (step_of party) after) other) (turns_now given (step_of party) other (world.turns other))
+  refused_ok party gone none other inside works =
+      subst (λ (made : ℕ). PartyOK log.place other made (turns_now given (step_of party) other (world.turns other))) (sym (refused_steps world after party other gone))
       (subst (PartyOK log.place other (steps_of world other)) (sym (turns_of_step given party other (world.turns other) ∙ other_turns given (eqb party other) (world.turns other) (refused_both (eqb party other) (is_refused given) gone)))
-      (same_ok log.place other (steps_of world other) (world.turns other) (length served-by) (ap length none) (ok.each other inside (still_works log party given other works).0)))
+      (same_ok log.place other (steps_of world other) (world.turns other) (length served_by_lem) (ap length none) (ok.each other inside (still_works log party given other works).0)))
 
   -- a step of a party at work
   module _ (party : ℕ) (low : party ≤ 16) (carried : is_refused given ≡ false) where
     -- the party itself, wherever the place is then
-    own-ok : (next : ℕ) → next ≤ 16 → length served-by ≤ 1 → has_work (log_after log (step_of party) given) party ≡ true → PartyOK next party (steps_of (noted world (step_of party) after) party) (turns_now given (step_of party) party (world.turns party))
-    own-ok next near few works =
+    own_ok : (next : ℕ) → next ≤ 16 → length served_by_lem ≤ 1 → has_work (log_after log (step_of party) given) party ≡ true → PartyOK next party (steps_of (noted world (step_of party) after) party) (turns_now given (step_of party) party (world.turns party))
+    own_ok next near few works =
         let w = still_works log party given party works in
-        subst (λ (made : ℕ). PartyOK next party made (turns_now given (step_of party) party (world.turns party))) (sym (own-steps world after party carried (w.1 refl)))
+        subst (λ (made : ℕ). PartyOK next party made (turns_now given (step_of party) party (world.turns party))) (sym (own_steps world after party carried (w.1 refl)))
         (subst (PartyOK next party (steps_of world party + 1)) (sym (turns_of_step given party party (world.turns party) ∙ own_turns given (eqb party party) (world.turns party) (eq-eqb party party refl) carried))
-        (stepped_ok log.place next party (steps_of world party) (world.turns party) (length served-by) few near low (ok.each party low w.0)))
+        (stepped_ok log.place next party (steps_of world party) (world.turns party) (length served_by_lem) few near low (ok.each party low w.0)))
 
     -- another party
-    other-as : (next other : ℕ) → other ≢ party → PartyOK next other (steps_of world other) (record { seen = (world.turns other).seen + length served-by; waited = (world.turns other).waited + length served-by }) → PartyOK next other (steps_of (noted world (step_of party) after) other) (turns_now given (step_of party) other (world.turns other))
-    other-as next other different holds =
-        subst (λ (made : ℕ). PartyOK next other made (turns_now given (step_of party) other (world.turns other))) (sym (other-steps world after party other different))
+    other_as : (next other : ℕ) → other ≢ party → PartyOK next other (steps_of world other) (record { seen = (world.turns other).seen + length served_by_lem; waited = (world.turns other).waited + length served_by_lem }) → PartyOK next other (steps_of (noted world (step_of party) after) other) (turns_now given (step_of party) other (world.turns other))
+    other_as next other different holds =
+        subst (λ (made : ℕ). PartyOK next other made (turns_now given (step_of party) other (world.turns other))) (sym (other_steps world after party other different))
         (subst (PartyOK next other (steps_of world other)) (sym (turns_of_step given party other (world.turns other) ∙ other_turns given (eqb party other) (world.turns other) (other_both (eqb party other) (not (is_refused given)) (ne_eqb party other (λ same. different (sym same))))))
         holds)
 
-    direct-ok : served-by ≡ [] → (other : ℕ) → Dec (other ≡ party) → other ≤ 16 → has_work (log_after log (step_of party) given) other ≡ true → PartyOK log.place other (steps_of (noted world (step_of party) after) other) (turns_now given (step_of party) other (world.turns other))
-    direct-ok none other (yes same) inside works =
+    direct_ok : served_by_lem ≡ [] → (other : ℕ) → Dec (other ≡ party) → other ≤ 16 → has_work (log_after log (step_of party) given) other ≡ true → PartyOK log.place other (steps_of (noted world (step_of party) after) other) (turns_now given (step_of party) other (world.turns other))
+    direct_ok none other (yes same) inside works =
         subst (λ (p : ℕ). PartyOK log.place p (steps_of (noted world (step_of party) after) p) (turns_now given (step_of party) p (world.turns p))) (sym same)
-        (own-ok log.place ok.place_low (let n = ap length none in omega arith) (subst (λ (p : ℕ). has_work (log_after log (step_of party) given) p ≡ true) same works))
-    direct-ok none other (no different) inside works =
-        other-as log.place other different
-        (same_ok log.place other (steps_of world other) (world.turns other) (length served-by) (ap length none) (ok.each other inside (still_works log party given other works).0))
+        (own_ok log.place ok.place_low (let n = ap length none in omega arith) (subst (λ (p : ℕ). has_work (log_after log (step_of party) given) p ≡ true) same works))
+    direct_ok none other (no different) inside works =
+        other_as log.place other different
+        (same_ok log.place other (steps_of world other) (world.turns other) (length served_by_lem) (ap length none) (ok.each other inside (still_works log party given other works).0))
 
-    turn-ok : served-by ≡ party ∷ [] → party ≡ due_in log → (other : ℕ) → Dec (other ≡ party) → other ≤ 16 → has_work (log_after log (step_of party) given) other ≡ true → PartyOK (party_after party) other (steps_of (noted world (step_of party) after) other) (turns_now given (step_of party) other (world.turns other))
+    turn_ok : served_by_lem ≡ party ∷ [] → party ≡ due_in log → (other : ℕ) → Dec (other ≡ party) → other ≤ 16 → has_work (log_after log (step_of party) given) other ≡ true → PartyOK (party_after party) other (steps_of (noted world (step_of party) after) other) (turns_now given (step_of party) other (world.turns other))
     unfolding due_in
-    turn-ok one is other (yes same) inside works =
+    turn_ok one is other (yes same) inside works =
         subst (λ (p : ℕ). PartyOK (party_after party) p (steps_of (noted world (step_of party) after) p) (turns_now given (step_of party) p (world.turns p))) (sym same)
-        (own-ok (party_after party) (after_low party) (let n = ap length one in omega arith) (subst (λ (p : ℕ). has_work (log_after log (step_of party) given) p ≡ true) same works))
-    turn-ok one is other (no different) inside works =
+        (own_ok (party_after party) (after_low party) (let n = ap length one in omega arith) (subst (λ (p : ℕ). has_work (log_after log (step_of party) given) p ≡ true) same works))
+    turn_ok one is other (no different) inside works =
         let worked = (still_works log party given other works).0 in
-        other-as (party_after party) other different
-        (passed_ok log.place (party_after party) other (steps_of world other) (world.turns other) (length served-by) (ap length one)
-        (nearer-then (someone_due (has_work log) log.place other ok.place_low inside worked).brings) (ok.each other inside worked))
+        other_as (party_after party) other different
+        (passed_ok log.place (party_after party) other (steps_of world other) (world.turns other) (length served_by_lem) (ap length one)
+        (nearer_then (someone_due (has_work log) log.place other ok.place_low inside worked).brings) (ok.each other inside worked))
       where
-        nearer-then : (other ≡ party_due (has_work log) log.place) ⊎ (gap (party_after (party_due (has_work log) log.place)) other + 1 ≤ gap log.place other) → gap (party_after party) other + 1 ≤ gap log.place other
-        nearer-then (inl same) = absurd (different (same ∙ sym is))
-        nearer-then (inr less) = subst (λ (p : ℕ). gap (party_after p) other + 1 ≤ gap log.place other) (sym is) less
+        nearer_then : (other ≡ party_due (has_work log) log.place) ⊎ (gap (party_after (party_due (has_work log) log.place)) other + 1 ≤ gap log.place other) → gap (party_after party) other + 1 ≤ gap log.place other
+        nearer_then (inl same) = absurd (different (same ∙ sym is))
+        nearer_then (inr less) = subst (λ (p : ℕ). gap (party_after p) other + 1 ≤ gap log.place other) (sym is) less
 
-    served-ok : served-by ≡ party ∷ [] → party ≡ due_in log → TurnsOK (noted world (step_of party) after)
+    served_ok : served_by_lem ≡ party ∷ [] → party ≡ due_in log → TurnsOK (noted world (step_of party) after)
     unfolding noted log_after
-    served-ok one is =
+    served_ok one is =
         record {
           place_low = subst (λ (place : ℕ). place ≤ 16) (sym moved) (after_low party);
-          each = λ other inside works. subst (λ (place : ℕ). PartyOK place other (steps_of (noted world (step_of party) after) other) (turns_now given (step_of party) other (world.turns other))) (sym moved) (turn-ok one is other (ℕ_discrete other party) inside works);
+          each = λ other inside works. subst (λ (place : ℕ). PartyOK place other (steps_of (noted world (step_of party) after) other) (turns_now given (step_of party) other (world.turns other))) (sym moved) (turn_ok one is other (ℕ_discrete other party) inside works);
         }
       where
-        moved : place_moved log.place served-by ≡ party_after party
+        moved : place_moved log.place served_by_lem ≡ party_after party
         moved = ap (place_moved log.place) one
 
-  pub turns-kept : (role : Role) → Made log role given → TurnsOK (noted world role after)
-  turns-kept role (reader_starts {reader = reader} {begun = begun} none) = unserved (reader_start reader begun) none (reader-began-ok reader begun)
-  turns-kept role (writer_starts {begun = begun} none) = unserved (writer_start begun) none (writer-began-ok begun)
-  turns-kept role (refused_step party gone on none) = unserved (step_of party) none (refused-ok party gone none)
-  turns-kept role (makes_step party low works carried (inl none)) = unserved (step_of party) none (λ other inside w. direct-ok party low carried none other (ℕ_discrete other party) inside w)
-  turns-kept role (makes_step party low works carried (inr one)) = served-ok party low carried one.0 one.1
+  pub turns_kept : (role : Role) → Made log role given → TurnsOK (noted world role after)
+  turns_kept role (reader_starts {reader = reader} {begun = begun} none) = unserved (reader_start reader begun) none (reader_began_ok reader begun)
+  turns_kept role (writer_starts {begun = begun} none) = unserved (writer_start begun) none (writer_began_ok begun)
+  turns_kept role (refused_step party gone on none) = unserved (step_of party) none (refused_ok party gone none)
+  turns_kept role (makes_step party low works carried (inl none)) = unserved (step_of party) none (λ other inside w. direct_ok party low carried none other (ℕ_discrete other party) inside w)
+  turns_kept role (makes_step party low works carried (inr one)) = served_ok party low carried one.0 one.1
 
 -- before the first call nobody has work
 none_works : (party : ℕ) → has_work fresh_log party ≡ false

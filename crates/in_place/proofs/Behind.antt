@@ -75,8 +75,8 @@ module _ {M : Type 1} {𝓤 : Ura M} {𝓛 : Logic 𝓤} {K : Type 0} where
       whole u = subst (λ (m : ℕ). ent 𝓤 (elems 𝓤 H q τ b o (set us k u)) (H.at q (ty_array τ m) b o (vstruct (of_list (set us k u))))) (length-set us k u ∙ e) (𝓛.laws.elems_at q τ b o (set us k u))
 
   -- the same of an array whose elements' machine values are f of its elements
-  pub element-of : K → {A₀ : Type 0} {i : Item 𝓤} {q : Share} {τ : Ty} {n b o : ℕ} {back : Val → Item 𝓤} (f : A₀ → Val) (xs : List A₀) (k : ℕ) (d : A₀) → k < n → length (map f xs) ≡ n
+  pub element_of : K → {A₀ : Type 0} {i : Item 𝓤} {q : Share} {τ : Ty} {n b o : ℕ} {back : Val → Item 𝓤} (f : A₀ → Val) (xs : List A₀) (k : ℕ) (d : A₀) → k < n → length (map f xs) ≡ n
       → Part K 𝓛 i q (ty_array τ n) b o (vstruct (of_list (map f xs))) back → Part K 𝓛 i q τ b (k * size τ + o) (f (get_or xs k d)) (λ u. back (vstruct (of_list (set (map f xs) k u))))
-  element-of t {A₀} {i} {q} {τ} {n} {b} {o} {back} f xs k d l e p =
+  element_of t {A₀} {i} {q} {τ} {n} {b} {o} {back} f xs k d l e p =
       subst (λ (v : Val). Part K 𝓛 i q τ b (k * size τ + o) v (λ u. back (vstruct (of_list (set (map f xs) k u))))) (get_d_map f xs k d)
       (element t (map f xs) k (f d) (subst (λ (m : ℕ). k < m) (sym e) l) e p)

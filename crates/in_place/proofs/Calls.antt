@@ -50,34 +50,34 @@ module _ {M : Type 1} {𝓤 : Ura M} {𝓛 : Logic 𝓤} {K : Type 0} {Γ : List
   -- what the arguments own stands in the context
   open 𝓛 use {H}
 
-  pub calls-owning : K → FmC 𝓤 H 𝓛.laws C → (tokens : SProp 𝓤) (Rs : List RattleType) (a : Denots Rs) (vss : Valss Rs)
+  pub calls_owning : K → FmC 𝓤 H 𝓛.laws C → (tokens : SProp 𝓤) (Rs : List RattleType) (a : Denots Rs) (vss : Valss Rs)
       → (R : RattleType) (val : R.Denot → Val) → Tells R (Is R) (λ r. val r ∷ []) → (says : R.Denot → SProp 𝓤)
       → ent 𝓤 (mean 𝓛 (Asked 𝓛 tokens Rs a vss)) (C f (flat Rs vss) (Given-back 𝓛 tokens R says)) → Opds K 𝓛 (Asked 𝓛 tokens Rs a vss ∷ Γ) E xs (flat Rs vss)
       → ((r : R.Denot) → Is R r (val r ∷ []) → Seq K 𝓛 (raw (says r) ∷ raw tokens ∷ Γ) (lands C Λ E d (val r) rest q))
       → Seq K 𝓛 (‵ (owns Rs a vss) ∷ raw tokens ∷ Γ) (runs C Λ E (seq (call f xs d) rest) q)
-  calls-owning t fm tokens Rs a vss R val tl says met os k =
+  calls_owning t fm tokens Rs a vss R val tl says met os k =
       move t (1 ∷ 0 ∷ []) $ join t $ use0 𝓛 (raw (emp 𝓤)) (id⊢ 𝓤 _) $ move t (1 ∷ 0 ∷ []) $ join t $
       calls_from t fm (Asked 𝓛 tokens Rs a vss) (flat Rs vss) (Given-back 𝓛 tokens R says) met os (λ u.
       use1 𝓛 (later (some (λ (r : R.Denot). (raw tokens ⊛ ‵ (R.own_val r (u ∷ []))) ⊛ raw (says r)))) (id⊢ 𝓤 _) $ await t tt $ pick t (λ r. split t $ split t $ move t (1 ∷ []) $
       peeks t R (Is R) (shows 𝓛 R) r (u ∷ []) (λ is. drop t $ move t (1 ∷ 0 ∷ []) $ told R val tl (λ v. Seq K 𝓛 (raw (says r) ∷ raw tokens ∷ Γ) (lands C Λ E d v rest q)) r u is (k r))))
 
   -- the arguments of Rs are plain data, and had for nothing; what those of Qs own stands in the context
-  pub calls-with : K → FmC 𝓤 H 𝓛.laws C → (tokens : SProp 𝓤) (Rs Qs : List RattleType) → Makess 𝓛 Rs (Ises Rs) → (a : Denots Rs) (vss : Valss Rs) → Are Rs (Ises Rs) a vss → (c : Denots Qs) (wss : Valss Qs)
+  pub calls_with : K → FmC 𝓤 H 𝓛.laws C → (tokens : SProp 𝓤) (Rs Qs : List RattleType) → Makess 𝓛 Rs (Ises Rs) → (a : Denots Rs) (vss : Valss Rs) → Are Rs (Ises Rs) a vss → (c : Denots Qs) (wss : Valss Qs)
       → (R : RattleType) (val : R.Denot → Val) → Tells R (Is R) (λ r. val r ∷ []) → (says : R.Denot → SProp 𝓤)
       → ent 𝓤 (mean 𝓛 (Asked 𝓛 tokens (Rs ++ Qs) (both Rs Qs a c) (both_vals Rs Qs vss wss))) (C f (flat (Rs ++ Qs) (both_vals Rs Qs vss wss)) (Given-back 𝓛 tokens R says))
       → Opds K 𝓛 (Asked 𝓛 tokens (Rs ++ Qs) (both Rs Qs a c) (both_vals Rs Qs vss wss) ∷ Γ) E xs (flat (Rs ++ Qs) (both_vals Rs Qs vss wss))
       → ((r : R.Denot) → Is R r (val r ∷ []) → Seq K 𝓛 (raw (says r) ∷ raw tokens ∷ Γ) (lands C Λ E d (val r) rest q))
       → Seq K 𝓛 (‵ (owns Qs c wss) ∷ raw tokens ∷ Γ) (runs C Λ E (seq (call f xs d) rest) q)
-  calls-with t fm tokens Rs Qs mk a vss are c wss R val tl says met os k =
-      use1 𝓛 (‵ (owns (Rs ++ Qs) (both Rs Qs a c) (both_vals Rs Qs vss wss))) (before 𝓛 Rs Qs mk a vss are c wss) $ calls-owning t fm tokens (Rs ++ Qs) (both Rs Qs a c) (both_vals Rs Qs vss wss) R val tl says met os k
+  calls_with t fm tokens Rs Qs mk a vss are c wss R val tl says met os k =
+      use1 𝓛 (‵ (owns (Rs ++ Qs) (both Rs Qs a c) (both_vals Rs Qs vss wss))) (before 𝓛 Rs Qs mk a vss are c wss) $ calls_owning t fm tokens (Rs ++ Qs) (both Rs Qs a c) (both_vals Rs Qs vss wss) R val tl says met os k
 
   -- all arguments are plain data
-  pub calls-plain : K → FmC 𝓤 H 𝓛.laws C → (Rs : List RattleType) → Makess 𝓛 Rs (Ises Rs) → (a : Denots Rs) (vss : Valss Rs) → Are Rs (Ises Rs) a vss
+  pub calls_plain : K → FmC 𝓤 H 𝓛.laws C → (Rs : List RattleType) → Makess 𝓛 Rs (Ises Rs) → (a : Denots Rs) (vss : Valss Rs) → Are Rs (Ises Rs) a vss
       → (R : RattleType) (val : R.Denot → Val) → Tells R (Is R) (λ r. val r ∷ []) → (says : R.Denot → SProp 𝓤)
       → ent 𝓤 (mean 𝓛 (Asked 𝓛 (emp 𝓤) Rs a vss)) (C f (flat Rs vss) (Given-back 𝓛 (emp 𝓤) R says)) → Opds K 𝓛 (Asked 𝓛 (emp 𝓤) Rs a vss ∷ Γ) E xs (flat Rs vss)
       → ((r : R.Denot) → Is R r (val r ∷ []) → Seq K 𝓛 (raw (says r) ∷ Γ) (lands C Λ E d (val r) rest q)) → Seq K 𝓛 Γ (runs C Λ E (seq (call f xs d) rest) q)
-  calls-plain t fm Rs mk a vss are R val tl says met os k =
-      use0 𝓛 (raw (emp 𝓤)) (id⊢ 𝓤 _) $ use0 𝓛 (‵ (owns Rs a vss)) (owns_make 𝓛 Rs (Ises Rs) mk a vss are) $ calls-owning t fm (emp 𝓤) Rs a vss R val tl says met os (λ r is. move t (1 ∷ []) $ drop t $ k r is)
+  calls_plain t fm Rs mk a vss are R val tl says met os k =
+      use0 𝓛 (raw (emp 𝓤)) (id⊢ 𝓤 _) $ use0 𝓛 (‵ (owns Rs a vss)) (owns_make 𝓛 Rs (Ises Rs) mk a vss are) $ calls_owning t fm (emp 𝓤) Rs a vss R val tl says met os (λ r is. move t (1 ∷ []) $ drop t $ k r is)
 
 module _ {M : Type 1} {𝓤 : Ura M} (𝓛 : Logic 𝓤) (C : Calls 𝓤 𝓛.H) (fm : FmC 𝓤 𝓛.H 𝓛.laws C) (f : Name) where
   -- a call whose arguments are all plain data, from nothing: it gives a result of which φ is said, and so ψ holds
@@ -115,13 +115,13 @@ module _ {M : Type 1} {𝓤 : Ura M} {𝓛 : Logic 𝓤} {K : Type 0} {Γ : List
   -- a function that is lent the record by `&`, and the number of slots
   open 𝓛 use {H}
 
-  pub calls-sharing : K → FmC 𝓤 H 𝓛.laws C → (panel : Record) (b o n : ℕ) → Holds panel → n < 2 ^ 64 → (N : Result) (says : ℕ → GName → N.row.Denot → SProp 𝓤)
+  pub calls_sharing : K → FmC 𝓤 H 𝓛.laws C → (panel : Record) (b o n : ℕ) → Holds panel → n < 2 ^ 64 → (N : Result) (says : ℕ → GName → N.row.Denot → SProp 𝓤)
       → ((ν : ℕ) (γ : GName) → ent 𝓤 (mean 𝓛 (SharedAsked 𝓛 panel b o n ν γ)) (C f (vptr b o ∷ vint w64 n ∷ []) (SharedGiven 𝓛 N.row says ν γ)))
       → ((ν : ℕ) (γ : GName) → Opds K 𝓛 (SharedAsked 𝓛 panel b o n ν γ ∷ ‵ (flent (ν ∷ []) (part_at row full_share panel b o)) ∷ Γ) E xs (vptr b o ∷ vint w64 n ∷ []))
       → ((ν : ℕ) (γ : GName) (r : N.row.Denot) → Is N.row r (N.val r ∷ []) → Seq K 𝓛 (raw (says ν γ r) ∷ ‵ (record_at full_share panel b o) ∷ Γ) (lands C Λ E d (N.val r) rest q))
       → Seq K 𝓛 (‵ (record_at full_share panel b o) ∷ Γ) (runs C Λ E (seq (call f xs d) rest) q)
   unfolding part_of record_at
-  calls-sharing t fm panel b o n is l N says met os k =
+  calls_sharing t fm panel b o n is l N says met os k =
       owned t row (Is row) (LL.makes RecordType.the_type RecordLaws.the_plain 𝓛) panel (val panel ∷ []) is $ move t (1 ∷ 0 ∷ []) $ fjoin t $ fpack t (List Val) (λ vs. fsep (cell_at full_share row.mir vs b o) (row.own_val panel vs)) (val panel ∷ []) $
       lft_new t tt (λ ν. move t (1 ∷ []) $ use1 𝓛 (later (some (λ (γ : GName). ‵ ((ShrRef (named 0) (ν ∷ []) row).own_val (record { ref_ptr = (b, o); now = panel }) (vptr b o ∷ [])) ⊛ ‵ (flent (ν ∷ []) (part_at row full_share panel b o))))) (lends_shr 𝓛 row (named 0) (ν ∷ []) full_share panel b o) $ await t tt $ pick t (λ γ. split t $
       -- [the reference; the lender's part; the token]
@@ -151,11 +151,11 @@ module _ {M : Type 1} {𝓤 : Ura M} (𝓛 : Logic 𝓤) (κ : Lft) (share : Sha
 module _ {M : Type 1} {𝓤 : Ura M} {𝓛 : Logic 𝓤} {K : Type 0} {Γ : List (Item 𝓤)} {E : Env 𝓤 𝓛.H} {C : Calls 𝓤 𝓛.H} {Λ : Loops 𝓤 𝓛.H} {q : Post 𝓤 𝓛.H} {f : Name} {xs : List Operand} {d : Place} {rest : Body} where
   open 𝓛 use {H}
 
-  pub calls-handing : K → FmC 𝓤 H 𝓛.laws C → (κ : Lft) (share : Share) (x : Bor Record) (Rs : List RattleType) → Makess 𝓛 Rs (Ises Rs) → (a : Denots Rs) (vss : Valss Rs) → Are Rs (Ises Rs) a vss → (N : Result) (says : N.row.Denot → SProp 𝓤)
+  pub calls_handing : K → FmC 𝓤 H 𝓛.laws C → (κ : Lft) (share : Share) (x : Bor Record) (Rs : List RattleType) → Makess 𝓛 Rs (Ises Rs) → (a : Denots Rs) (vss : Valss Rs) → Are Rs (Ises Rs) a vss → (N : Result) (says : N.row.Denot → SProp 𝓤)
       → ent 𝓤 (mean 𝓛 (HandedAsked 𝓛 κ share x Rs a vss)) (C f (vptr x.ref_ptr.0 x.ref_ptr.1 ∷ flat Rs vss) (HandedGiven 𝓛 κ share x N.row says))
       → Opds K 𝓛 (HandedAsked 𝓛 κ share x Rs a vss ∷ ‵ (fres x.ghost_name (row.coded.code x.now)) ∷ ‵ (fshr_bor κ (λ s. part_at row s x.now x.ref_ptr.0 x.ref_ptr.1)) ∷ Γ) E xs (vptr x.ref_ptr.0 x.ref_ptr.1 ∷ flat Rs vss)
       → ((r : N.row.Denot) → Is N.row r (N.val r ∷ []) → Seq K 𝓛 (raw (says r) ∷ (Seen 𝓛 κ share x ++ Γ)) (lands C Λ E d (N.val r) rest q)) → Seq K 𝓛 (Seen 𝓛 κ share x ++ Γ) (runs C Λ E (seq (call f xs d) rest) q)
-  calls-handing t fm κ share x Rs mk a vss are N says met os k =
+  calls_handing t fm κ share x Rs mk a vss are N says met os k =
       move t (1 ∷ []) $ res_dup t $ move t (3 ∷ []) $ shr_bor_dup t $ move t (2 ∷ 0 ∷ []) $ feq_i t (List Val) (vptr x.ref_ptr.0 x.ref_ptr.1 ∷ []) (vptr x.ref_ptr.0 x.ref_ptr.1 ∷ []) refl $ fjoin3 t $
       -- [the reference; the shared borrow; the mark; the token]
       use0 𝓛 (‵ (owns Rs a vss)) (owns_make 𝓛 Rs (Ises Rs) mk a vss are) $ move t (1 ∷ 0 ∷ []) $ fjoin t $ use0 𝓛 (raw (emp 𝓤)) (id⊢ 𝓤 _) $ move t (4 ∷ 0 ∷ []) $ join t $ join t $ use0 𝓛 (raw (emp 𝓤)) (id⊢ 𝓤 _) $ move t (1 ∷ 0 ∷ []) $ join t $ move t (0 ∷ 2 ∷ 1 ∷ []) $

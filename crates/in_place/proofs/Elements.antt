@@ -57,19 +57,19 @@ module _ (F : Field) (L : FLaws F) where
   another (x ∷ xs) (suc k) y is s = (s.0, another xs k y is s.1)
 
   -- a field's value, in its machine form
-  abbrev pub field-val : F.Value → Val
-  field-val x = L.val (F.into x)
+  abbrev pub field_val : F.Value → Val
+  field_val x = L.val (F.into x)
 
   module _ (n : ℕ) (xs : List F.Value) (vs : List Val) (p : Is (Array R n) (map F.into xs) vs) where
-    pub number_of : length (map field-val xs) ≡ n
-    number_of = length-map xs field-val ∙ sym (length-map xs F.into) ∙ p.1.0.1
+    pub number_of : length (map field_val xs) ≡ n
+    number_of = length-map xs field_val ∙ sym (length-map xs F.into) ∙ p.1.0.1
 
-    pub is-element : (k : ℕ) (none : F.Value) → k < n → Is R (F.into (get_or xs k none)) (field-val (get_or xs k none) ∷ [])
-    is-element k none l = subst (λ (x : D). Is R x (L.val x ∷ [])) (get_d_map F.into xs k none)
+    pub is_element : (k : ℕ) (none : F.Value) → k < n → Is R (F.into (get_or xs k none)) (field_val (get_or xs k none) ∷ [])
+    is_element k none l = subst (λ (x : D). Is R x (L.val x ∷ [])) (get_d_map F.into xs k none)
         (one (map F.into xs) k (F.into none) (subst (λ (m : ℕ). k < m) (sym p.1.0.1) l) (spelt (map F.into xs) p.0 p.1.1))
 
-    pub is-replaced : (k : ℕ) (y : F.Value) → Is R (F.into y) (field-val y ∷ []) → Is (Array R n) (map F.into (set xs k y)) (array_val (vals (map F.into (set xs k y))) ∷ [])
-    is-replaced k y is = subst (λ (ys : List D). Is (Array R n) ys (array_val (vals ys) ∷ [])) (set_map F.into xs k y)
+    pub is_replaced : (k : ℕ) (y : F.Value) → Is R (F.into y) (field_val y ∷ []) → Is (Array R n) (map F.into (set xs k y)) (array_val (vals (map F.into (set xs k y))) ∷ [])
+    is_replaced k y is = subst (λ (ys : List D). Is (Array R n) ys (array_val (vals ys) ∷ [])) (set_map F.into xs k y)
         (vals (set (map F.into xs) k (F.into y)), ((refl, length-set (map F.into xs) k (F.into y) ∙ p.1.0.1), another (map F.into xs) k (F.into y) is (spelt (map F.into xs) p.0 p.1.1)))
 
 -- the fields of a struct's machine value

@@ -35,12 +35,12 @@ use denote.Triple.End.{all as each-kept, Fins, outs, lasts_of}
 use denote.Exit.{yes}
 use Rattle.record.specs.declared.Record.{Record}
 use Rattle.in_place.proofs.Calls.{told}
-use Rattle.in_place.proofs.Elements.{field-val, fields_of, is-element}
+use Rattle.in_place.proofs.Elements.{field_val, fields_of, is_element}
 use Rattle.in_place.proofs.Locals.{locals, past, copies, Blocks, env, cells, past_is, allocate, fill, free, found as found_local, reads, at_entry, from_next, from_first}
 use Rattle.in_place.proofs.Looked.{ended, Entry, Exit, ends as ends_with}
 use Rattle.in_place.proofs.Params.{Param, slots, tys, args}
 use Rattle.in_place.proofs.Results.{Result}
-use Rattle.in_place.proofs.RecordFields.{row, record_ty, val, Holds, record_at, element-read, looks-panel, shuts-panel}
+use Rattle.in_place.proofs.RecordFields.{row, record_ty, val, Holds, record_at, element_read, looks_panel, shuts_panel}
 
 -- ---- the elements folded
 abbrev pub folded : {D X : Type 0} → (D → X → D) → D → List X → D
@@ -99,8 +99,8 @@ module _ (n f : ℕ) (τ ρ : Ty) (τs : List Ty) (start : RValue) (#step : Name
   abbrev next_of : Code
   next_of = assign (place (number 1) []) (op2 (add unsigned) (copy (place (number 1) [])) (int w64 1))
 
-  abbrev iteration-of : Code
-  iteration-of = seq (assign (place (number 2) []) (op2 (lt unsigned) (copy (place (number 1) [])) (int w64 n)))
+  abbrev iteration_of : Code
+  iteration_of = seq (assign (place (number 2) []) (op2 (lt unsigned) (copy (place (number 1) [])) (int w64 n)))
       (seq (cond (copy (place (number 2) [])) skip (exit 1)) (one_of 4 (seq next_of (one_of 7 next_of))))
 
   abbrev rest : Code
@@ -113,7 +113,7 @@ module _ (n f : ℕ) (τ ρ : Ty) (τs : List Ty) (start : RValue) (#step : Name
     params = past τs 1;
     locals = local ρ value_local ∷ local (ty_ref (named 0) imm (pointee row.written)) value_local
         ∷ (locals τs ++ (local ρ value_local ∷ local (ty_int w64) value_local ∷ local ty_bool value_local ∷ local (ty_int w64) value_local ∷ local ty_ptr value_local ∷ local ty_ptr value_local ∷ local τ value_local ∷ local ty_ptr value_local ∷ local ty_ptr value_local ∷ []));
-    body = seq (assign (place (number 0) []) start) (seq (assign (place (number 1) []) (rv_opd (int w64 0))) (seq (block (loop iteration-of)) rest));
+    body = seq (assign (place (number 0) []) start) (seq (assign (place (number 1) []) (rv_opd (int w64 0))) (seq (block (loop iteration_of)) rest));
   }
 
 -- ---- numbers
@@ -135,9 +135,9 @@ module _ (F : Field) (L : LL.FLaws F) (n f d : ℕ) (τ : Ty) (at : fieldOf reco
     (holds_of : (panel : Record) → Holds panel → Is (Array F.row n) (map F.into (field-of panel)) (array_val (map L.val (map F.into (field-of panel))) ∷ []))
     (value_of_lem : (panel : Record) → get_v (fields_of (val panel)) f ≡ array_val (map L.val (map F.into (field-of panel)))) (n-written : T (ltb n (2 ^ 64))) (size-written : T (ltb (size τ) (2 ^ 64))) (inside : (i : ℕ) → i < n → i * size τ < 2 ^ 64) (half : ℕ) (even : n ≡ half + half) (N : Result) (ps : List (Param 1)) (#step : Name) (start : N.row.Denot) (is-start : Is N.row start (N.val start ∷ [])) (begin : RValue)
     {M : Type 1} {𝓤 : Ura M} (𝓛 : Logic 𝓤) (𝓣 : Tables 𝓤 𝓛.H) (c : Clauses 𝓤 (ended N ps)) (κs : Lfts 1) (qs : Shares 1) (x : Bor Record) (a : Denots (types_at (slots ps) κs)) (γ : (c κs (x, a)).ghost) (ok : Typed (tys ps) (args κs ps a))
-    (starts : (Γ : List (Item 𝓤)) (E : Env 𝓤 𝓛.H) → Rv (Go {0}) 𝓛 Γ E begin (N.val start)) (step : N.row.Denot → F.Value → N.row.Denot) (typed : (y : F.Value) → Is F.row (F.into y) (field-val F L y ∷ []) → T (has_ty τ (field-val F L y)) × WT (field-val F L y))
-    (met : (seen : N.row.Denot) → Is N.row seen (N.val seen ∷ []) → (y : F.Value) → Is F.row (F.into y) (field-val F L y ∷ [])
-    → ent 𝓤 (emp 𝓤) (𝓣.C #step (N.val seen ∷ field-val F L y ∷ args κs ps a) (λ u. 𝓛.H.⇛ (ex 𝓤 (λ (r : N.row.Denot). sep 𝓤 (sem 𝓛 (N.row.own_val r (u ∷ []))) (fact 𝓤 (r ≡ step seen y)))))))
+    (starts : (Γ : List (Item 𝓤)) (E : Env 𝓤 𝓛.H) → Rv (Go {0}) 𝓛 Γ E begin (N.val start)) (step : N.row.Denot → F.Value → N.row.Denot) (typed : (y : F.Value) → Is F.row (F.into y) (field_val F L y ∷ []) → T (has_ty τ (field_val F L y)) × WT (field_val F L y))
+    (met : (seen : N.row.Denot) → Is N.row seen (N.val seen ∷ []) → (y : F.Value) → Is F.row (F.into y) (field_val F L y ∷ [])
+    → ent 𝓤 (emp 𝓤) (𝓣.C #step (N.val seen ∷ field_val F L y ∷ args κs ps a) (λ u. 𝓛.H.⇛ (ex 𝓤 (λ (r : N.row.Denot). sep 𝓤 (sem 𝓛 (N.row.own_val r (u ∷ []))) (fact 𝓤 (r ≡ step seen y)))))))
     (l : Fins κs (slots ps) (each-kept yes (slots ps)) a) (quiet : ent 𝓤 (emp 𝓤) (sem 𝓛 (lasts_of κs (slots ps) (each-kept yes (slots ps)) a l)))
     (so : (w : N.row.Denot) → w ≡ folded step start (field-of x.now) → ent 𝓤 (emp 𝓤) ((c κs (x, a)).ensures γ w (x, outs κs (slots ps) (each-kept yes (slots ps)) a l))) where
   open 𝓛 use {H}
@@ -187,21 +187,21 @@ module _ (F : Field) (L : LL.FLaws F) (n f d : ℕ) (τ : Ty) (at : fieldOf reco
   abbrev Nearer : Iterations → Iterations → Type 0
   Nearer t' t = size_of - t'.i < size_of - t.i
 
-  nearer-wf : WellFounded Nearer
-  nearer-wf = InvImage.wf (λ (t : Iterations). size_of - t.i) lt-wf_rel.wf
+  nearer_wf : WellFounded Nearer
+  nearer_wf = InvImage.wf (λ (t : Iterations). size_of - t.i) lt-wf_rel.wf
 
   abbrev Post : Val → SProp 𝓤
   Post = Exit N ps 𝓛 c κs qs x a γ
 
   module _ (is : Holds h) (q' : Share) (bs : Blocks τs) (l₀ l₁ l₂ l₃ l₄ l₅ l₆ l₇ l₈ l₉ l₁₀ : ℕ) where
-    abbrev behind-params : List (Ty × ℕ)
-    behind-params = (ρ, l₂) ∷ (word, l₃) ∷ (ty_bool, l₄) ∷ (word, l₅) ∷ (ty_ptr, l₆) ∷ (ty_ptr, l₇) ∷ (τ, l₈) ∷ (ty_ptr, l₉) ∷ (ty_ptr, l₁₀) ∷ []
+    abbrev behind_params : List (Ty × ℕ)
+    behind_params = (ρ, l₂) ∷ (word, l₃) ∷ (ty_bool, l₄) ∷ (word, l₅) ∷ (ty_ptr, l₆) ∷ (ty_ptr, l₇) ∷ (τ, l₈) ∷ (ty_ptr, l₉) ∷ (ty_ptr, l₁₀) ∷ []
 
     abbrev En : Env 𝓤 H
-    En = (ρ, l₀) ∷ (ref_ty, l₁) ∷ (env τs bs ++ behind-params)
+    En = (ρ, l₀) ∷ (ref_ty, l₁) ∷ (env τs bs ++ behind_params)
 
-    is_at : (j : ℕ) → get_or (env τs bs ++ behind-params) (past τs j) (no_local 𝓤 H) ≡ get_or behind-params j (no_local 𝓤 H)
-    is_at j = past_is (no_local 𝓤 H) τs bs behind-params j
+    is_at : (j : ℕ) → get_or (env τs bs ++ behind_params) (past τs j) (no_local 𝓤 H) ≡ get_or behind_params j (no_local 𝓤 H)
+    is_at j = past_is (no_local 𝓤 H) τs bs behind_params j
 
     number_is : size_of ≡ n
     number_is = sym (length-map (field-of h) F.into) ∙ (holds_of h is).1.0.1
@@ -221,27 +221,27 @@ module _ (F : Field) (L : LL.FLaws F) (n f d : ℕ) (τ : Ty) (at : fieldOf reco
     Iterated t = after_turn 𝓤 H (Below 𝓛 Nearer At t) (after_block 𝓤 H (after_seq 𝓤 H (Wp 𝓤 H 𝓣.C 𝓣.Λ En (rest n f τ ρ τs begin #step) (at_return 𝓤 H En Post)) (at_return 𝓤 H En Post)))
 
     -- the loop ends with all elements folded
-    ended-with : (t : Iterations) → ltb t.i n ≡ false → ent 𝓤 (sem 𝓛 (flft κ q)) (Post (N.val t.seen))
-    ended-with t over = ends_with N ps 𝓛 c κs qs x a γ t.seen t.is l quiet (so t.seen (ends Told step start none (field-of h) t (subst (λ (k : ℕ). k ≤ t.i) (sym number_is) (ltb-false t.i n over))))
+    ended_with : (t : Iterations) → ltb t.i n ≡ false → ent 𝓤 (sem 𝓛 (flft κ q)) (Post (N.val t.seen))
+    ended_with t over = ends_with N ps 𝓛 c κs qs x a γ t.seen t.is l quiet (so t.seen (ends Told step start none (field-of h) t (subst (λ (k : ℕ). k ≤ t.i) (sym number_is) (ltb-false t.i n over))))
 
-    n-fits : n < 2 ^ 64
-    n-fits = ltb→lt n (2 ^ 64) n-written
+    n_fits : n < 2 ^ 64
+    n_fits = ltb→lt n (2 ^ 64) n-written
 
     nearer : (t : Iterations) → suc t.i < n → size_of - suc (suc t.i) < size_of - t.i
     nearer t l = by_number t.i size_of (subst (λ (k : ℕ). suc t.i < k) (sym number_is) l)
 
     -- an element is seen
-    one : (p la lb lc ld : ℕ) → get_or behind-params p (no_local 𝓤 H) ≡ (ty_ptr, la) → get_or behind-params (suc p) (no_local 𝓤 H) ≡ (ty_ptr, lb) → (seen : Seen) → Told seen → (i : ℕ) → i < n → (more : Code) (Q : After 𝓤 H)
+    one : (p la lb lc ld : ℕ) → get_or behind_params p (no_local 𝓤 H) ≡ (ty_ptr, la) → get_or behind_params (suc p) (no_local 𝓤 H) ≡ (ty_ptr, lb) → (seen : Seen) → Told seen → (i : ℕ) → i < n → (more : Code) (Q : After 𝓤 H)
         → ((r : Seen) → Told r → r ≡ step seen (get_or (field-of h) i none) → Sq 𝓛 (Around r i la lb lc ld) (runs 𝓣.C 𝓣.Λ En more Q)) → Sq 𝓛 (Around seen i la lb lc ld) (runs 𝓣.C 𝓣.Λ En (one_of n f τ ρ τs begin #step p more) Q)
     one p la lb lc ld at_a at_b seen is_seen i less more Q k =
         assigns ! (bin ! (load ! (found_local ! (is_at 1) (stop !)) (look ! 2 refl)) (lit ! size-written) (record { fits = inside i less })) (found_local ! (is_at 3) (stop !)) (init ! 4 refl (tt, record { fits = inside i less })) $
         assigns ! (addr ! (from ! (hop ! (look ! 10 refl) (fld ! {τ = ty_array τ n} {d = d} at (stop !))))) (found_local ! (is_at p ∙ at_a) (stop !)) (init ! 5 refl (tt, tt)) $
         assigns ! (bin ! (load ! (found_local ! (is_at p ∙ at_a) (stop !)) (look ! 5 refl)) (load ! (found_local ! (is_at 3) (stop !)) (look ! 4 refl)) tt) (found_local ! (is_at (suc p) ∙ at_b) (stop !)) (init ! 6 refl (tt, tt)) $
-        assigns ! (of_opd ! (load ! (found_local ! (is_at (suc p) ∙ at_b) (hop ! (look ! 6 refl) (stop !))) (element-read F L n f d τ at h (field-of h) (value_of_lem h) (holds_of h is) ! q' b o i none less))) (found_local ! (is_at 6) (stop !)) (init ! 7 refl (typed y is_y)) $
+        assigns ! (of_opd ! (load ! (found_local ! (is_at (suc p) ∙ at_b) (hop ! (look ! 6 refl) (stop !))) (element_read F L n f d τ at h (field-of h) (value_of_lem h) (holds_of h is) ! q' b o i none less))) (found_local ! (is_at 6) (stop !)) (init ! 7 refl (typed y is_y)) $
         use0 𝓛 (raw (emp 𝓤)) (id⊢ 𝓤 _) $
-        calls_from ! (fm_of 𝓤 H 𝓛.laws 𝓣) (raw (emp 𝓤)) (N.val seen ∷ field-val F L y ∷ vs) _ (met seen is_seen y is_y)
+        calls_from ! (fm_of 𝓤 H 𝓛.laws 𝓣) (raw (emp 𝓤)) (N.val seen ∷ field_val F L y ∷ vs) _ (met seen is_seen y is_y)
         (and_then ! (load ! (found_local ! (is_at 0) (stop !)) (look ! 2 refl)) (and_then ! (load ! (found_local ! (is_at 6) (stop !)) (look ! 8 refl)) (at_entry _ 12 (reads _ ! 2 τs bs vs ok
-        (from_next (no_local 𝓤 H) (ρ, l₀) _ 1 τs bs (from_next (no_local 𝓤 H) (ref_ty, l₁) _ 0 τs bs (from_first (no_local 𝓤 H) τs bs behind-params))))))) (λ u.
+        (from_next (no_local 𝓤 H) (ρ, l₀) _ 1 τs bs (from_next (no_local 𝓤 H) (ref_ty, l₁) _ 0 τs bs (from_first (no_local 𝓤 H) τs bs behind_params))))))) (λ u.
         use1 𝓛 (later (some (λ (r : Seen). ‵ (N.row.own_val r (u ∷ [])) ⊛ raw (fact 𝓤 (r ≡ step seen y))))) (id⊢ 𝓤 _) $ await ! tt $ pick ! (λ r. split ! $ facts ! N.row (Is N.row) (shows 𝓛 N.row) r (u ∷ []) (λ is-u.
         heard ! (r ≡ step seen y) (λ seen-is. forget ! 4 refl $ forget ! 5 refl $ forget ! 6 refl $ forget ! 7 refl $
         told N.row N.val N.tells (λ (v : Val). Sq 𝓛 (Around seen i la lb lc ld) (lands 𝓣.C 𝓣.Λ En (place (number n f τ ρ τs begin #step 0) []) v more Q)) r u is-u (λ is-r.
@@ -250,49 +250,49 @@ module _ (F : Field) (L : LL.FLaws F) (n f d : ℕ) (τ : Ty) (at : fieldOf reco
         y : F.Value
         y = get_or (field-of h) i none
 
-        is_y : Is F.row (F.into y) (field-val F L y ∷ [])
-        is_y = is-element F L n (field-of h) _ (holds_of h is) i none less
+        is_y : Is F.row (F.into y) (field_val F L y ∷ [])
+        is_y = is_element F L n (field-of h) _ (holds_of h is) i none less
 
     -- an iteration that sees two elements
-    sees : (t : Iterations) → ltb t.i n ≡ true → Sq 𝓛 (At t) (runs 𝓣.C 𝓣.Λ En (iteration-of n f τ ρ τs begin #step) (any_q (Iterated t)))
+    sees : (t : Iterations) → ltb t.i n ≡ true → Sq 𝓛 (At t) (runs 𝓣.C 𝓣.Λ En (iteration_of n f τ ρ τs begin #step) (any_q (Iterated t)))
     unfolding after_turn goes_on
     sees t yet =
         assigns ! (bin ! (load ! (found_local ! (is_at 1) (stop !)) (look ! 2 refl)) (lit ! n-written) tt) (found_local ! (is_at 2) (stop !)) (init ! 3 refl (tt, tt)) $
         rewrite ! 3 (λ (y : Bool). ‵ (fat full_share ty_bool l₄ 0 (vbool y))) yet refl $ stays ! (load ! (found_local ! (is_at 2) (stop !)) (look ! 3 refl)) $ forget ! 3 refl $
         one 4 l₆ l₇ l₉ l₁₀ refl refl t.seen t.is t.i less _ _ (λ first-seen is-first first-is.
-        assigns ! (bin ! (load ! (found_local ! (is_at 1) (stop !)) (look ! 2 refl)) (lit ! tt) (record { fits = further t.i n n-fits less })) (found_local ! (is_at 1) (stop !)) (store ! 2 refl (tt, record { fits = further t.i n n-fits less })) $
+        assigns ! (bin ! (load ! (found_local ! (is_at 1) (stop !)) (look ! 2 refl)) (lit ! tt) (record { fits = further t.i n n_fits less })) (found_local ! (is_at 1) (stop !)) (store ! 2 refl (tt, record { fits = further t.i n n_fits less })) $
         rewrite ! 2 (λ (j : ℕ). ‵ (fat full_share word l₃ 0 (vint w64 j))) (one_more t.i) refl $
-        move ! (0 ∷ 1 ∷ 2 ∷ 3 ∷ 4 ∷ 8 ∷ 9 ∷ 7 ∷ 5 ∷ 6 ∷ []) $ one 7 l₉ l₁₀ l₆ l₇ refl refl first-seen is-first (suc t.i) second-less _ _ (λ second-seen is-second second_is.
-        assigns_last ! (bin ! (load ! (found_local ! (is_at 1) (stop !)) (look ! 2 refl)) (lit ! tt) (record { fits = further (suc t.i) n n-fits second-less })) (found_local ! (is_at 1) (stop !)) (store ! 2 refl (tt, record { fits = further (suc t.i) n n-fits second-less })) $
+        move ! (0 ∷ 1 ∷ 2 ∷ 3 ∷ 4 ∷ 8 ∷ 9 ∷ 7 ∷ 5 ∷ 6 ∷ []) $ one 7 l₉ l₁₀ l₆ l₇ refl refl first-seen is-first (suc t.i) second_less _ _ (λ second-seen is-second second_is.
+        assigns_last ! (bin ! (load ! (found_local ! (is_at 1) (stop !)) (look ! 2 refl)) (lit ! tt) (record { fits = further (suc t.i) n n_fits second_less })) (found_local ! (is_at 1) (stop !)) (store ! 2 refl (tt, record { fits = further (suc t.i) n n_fits second_less })) $
         rewrite ! 2 (λ (j : ℕ). ‵ (fat full_share word l₃ 0 (vint w64 j))) (one_more (suc t.i)) refl $ move ! (0 ∷ 1 ∷ 2 ∷ 3 ∷ 4 ∷ 8 ∷ 9 ∷ 7 ∷ 5 ∷ 6 ∷ []) $
-        again ! Nearer At t (goes_on Told step start none (field-of h) t (subst (λ (k : ℕ). suc t.i < k) (sym number_is) second-less) first-seen second-seen first-is second_is is-second) (nearer t second-less)))
+        again ! Nearer At t (goes_on Told step start none (field-of h) t (subst (λ (k : ℕ). suc t.i < k) (sym number_is) second_less) first-seen second-seen first-is second_is is-second) (nearer t second_less)))
       where
         less : t.i < n
         less = ltb-true t.i n yet
 
-        second-less : suc t.i < n
-        second-less = both_below t.i t.iterations n half t.twice even less
+        second_less : suc t.i < n
+        second_less = both_below t.i t.iterations n half t.twice even less
 
     -- the iteration that leaves the loop, and the rest of the body
-    leaves : (t : Iterations) → ltb t.i n ≡ false → Sq 𝓛 (At t) (runs 𝓣.C 𝓣.Λ En (iteration-of n f τ ρ τs begin #step) (any_q (Iterated t)))
+    leaves : (t : Iterations) → ltb t.i n ≡ false → Sq 𝓛 (At t) (runs 𝓣.C 𝓣.Λ En (iteration_of n f τ ρ τs begin #step) (any_q (Iterated t)))
     unfolding after_turn
     leaves t over =
         assigns ! (bin ! (load ! (found_local ! (is_at 1) (stop !)) (look ! 2 refl)) (lit ! n-written) tt) (found_local ! (is_at 2) (stop !)) (init ! 3 refl (tt, tt)) $
         rewrite ! 3 (λ (y : Bool). ‵ (fat full_share ty_bool l₄ 0 (vbool y))) over refl $ leaves_loop ! (load ! (found_local ! (is_at 2) (stop !)) (look ! 3 refl)) $ exec ! 𝓣.C 𝓣.Λ En (rest n f τ ρ τs begin #step) (at_ret En Post) $
         assigns ! (of_opd ! (load ! (found_local ! (is_at 0) (stop !)) (look ! 1 refl))) (from ! (stop !)) (init ! 12 refl (N.typed 𝓛 t.seen t.is).0) $
-        move ! (0 ∷ 13 ∷ []) $ shuts-panel ! tt q' h b o is $
+        move ! (0 ∷ 13 ∷ []) $ shuts_panel ! tt q' h b o is $
         -- [the token; what is seen; i; the loop's test; room at 4 to 9; the reference; the further parameters; _0 at 12; and that each local dies]
         returns ! (look ! 12 refl) $ forget ! 1 refl $ forget ! 2 refl $ forget ! 3 refl $ forget ! 10 refl $ forget ! 12 refl $
         move ! (12 ∷ 13 ∷ []) $ free1 ! $ move ! (10 ∷ 12 ∷ []) $ free1 ! $ move ! (10 ∷ []) $ free ! τs bs vs ok _ $ move ! (1 ∷ 10 ∷ []) $ free1 ! $ move ! (1 ∷ 9 ∷ []) $ free1 ! $ move ! (1 ∷ 8 ∷ []) $ free1 ! $ move ! (1 ∷ 7 ∷ []) $ free1 ! $ move ! (1 ∷ 6 ∷ []) $ free1 ! $ move ! (1 ∷ 5 ∷ []) $ free1 ! $
         move ! (1 ∷ 4 ∷ []) $ free1 ! $ move ! (1 ∷ 3 ∷ []) $ free1 ! $ move ! (1 ∷ 2 ∷ []) $ free1 ! $ free0 ! $
-        by ! (ended-with t over)
+        by ! (ended_with t over)
 
-    iteration : (t : Iterations) (y : Bool) → ltb t.i n ≡ y → Sq 𝓛 (At t) (runs 𝓣.C 𝓣.Λ En (iteration-of n f τ ρ τs begin #step) (any_q (Iterated t)))
+    iteration : (t : Iterations) (y : Bool) → ltb t.i n ≡ y → Sq 𝓛 (At t) (runs 𝓣.C 𝓣.Λ En (iteration_of n f τ ρ τs begin #step) (any_q (Iterated t)))
     iteration t true test = sees t test
     iteration t false test = leaves t test
 
-    pub looped : Sq 𝓛 (At (begins Told step start none (field-of h) is-start)) (runs 𝓣.C 𝓣.Λ En (seq (block (loop (iteration-of n f τ ρ τs begin #step))) (rest n f τ ρ τs begin #step)) (at_ret En Post))
-    looped = first ! $ blocks ! $ loops ! 𝓣 Nearer nearer-wf At (λ t. iteration t (ltb t.i n) refl) (begins Told step start none (field-of h) is-start)
+    pub looped : Sq 𝓛 (At (begins Told step start none (field-of h) is-start)) (runs 𝓣.C 𝓣.Λ En (seq (block (loop (iteration_of n f τ ρ τs begin #step))) (rest n f τ ρ τs begin #step)) (at_ret En Post))
+    looped = first ! $ blocks ! $ loops ! 𝓣 Nearer nearer_wf At (λ t. iteration t (ltb t.i n) refl) (begins Told step start none (field-of h) is-start)
 
   pub walk : ent 𝓤 (mean 𝓛 (Entry N ps 𝓛 c κs qs x a γ)) (WpFn 𝓤 H 𝓣.C 𝓣.Λ (function n f τ ρ τs begin #step) (vptr b o ∷ vs) Post)
   unfolding begins
@@ -303,5 +303,5 @@ module _ (F : Field) (L : LL.FLaws F) (n f d : ℕ) (τ : Ty) (at : fieldOf reco
       -- [the further parameters; two pointers; …; the element; …; two pointers; …; the offset; …; the loop's test; …; i at 15; …; what is seen at 17; …; _1; …; _0; …; the shared borrow at 23; its token]
       assigns ! (starts _ _) (found_local ! (past_is (no_local 𝓤 H) τs bs _ 0) (stop !)) (init ! 17 refl (N.typed 𝓛 start is-start).0) $
       assigns ! (of_opd ! (lit ! tt)) (found_local ! (past_is (no_local 𝓤 H) τs bs _ 1) (stop !)) (init ! 15 refl (tt, record { fits = lit< tt })) $
-      move ! (23 ∷ 24 ∷ []) $ looks-panel ! tt h b o (λ q' is.
+      move ! (23 ∷ 24 ∷ []) $ looks_panel ! tt h b o (λ q' is.
       keep ! (0 ∷ 20 ∷ 18 ∷ 16 ∷ 14 ∷ 12 ∷ 10 ∷ 8 ∷ 6 ∷ 4 ∷ 22 ∷ 3 ∷ 24 ∷ 1 ∷ 25 ∷ 23 ∷ 21 ∷ 19 ∷ 17 ∷ 15 ∷ 13 ∷ 11 ∷ 9 ∷ 7 ∷ 5 ∷ []) $ looped is q' bs l₀ l₁ l₂ l₃ l₄ l₅ l₆ l₇ l₈ l₉ l₁₀)))))))))))))

@@ -65,6 +65,6 @@ module _ {M : Type 1} {𝓤 : Ura M} {𝓛 : Logic 𝓤} {K : Type 0} {Γ : List
 module _ {M : Type 1} {𝓤 : Ura M} {𝓛 : Logic 𝓤} {K : Type 0} where
   open 𝓛 use {H}
 
-  pub free-rooms : {Γ : List (Item 𝓤)} → K → (τs : List Ty) (bs : Blocks τs) (E : Env 𝓤 H) {G : Goal 𝓤 H} → Step K 𝓛 Γ (frees E G) (‵ (rooms τs bs) ∷ Γ) (frees (env τs bs ++ E) G)
-  free-rooms t [] bs E = drop t
-  free-rooms t (τ ∷ τs) bs E = step (λ s. fsplit3 t $ free1 t $ free-rooms t τs bs.1 E $ s)
+  pub free_rooms : {Γ : List (Item 𝓤)} → K → (τs : List Ty) (bs : Blocks τs) (E : Env 𝓤 H) {G : Goal 𝓤 H} → Step K 𝓛 Γ (frees E G) (‵ (rooms τs bs) ∷ Γ) (frees (env τs bs ++ E) G)
+  free_rooms t [] bs E = drop t
+  free_rooms t (τ ∷ τs) bs E = step (λ s. fsplit3 t $ free1 t $ free_rooms t τs bs.1 E $ s)

@@ -25,14 +25,14 @@ use denote.Steps.{facts}
 use denote.Triple.Clauses.{Clauses}
 use denote.Triple.End.{all, Fins, outs, lasts_of}
 use Rattle.record.specs.declared.Record.{Record}
-use Rattle.in_place.proofs.Calls.{SharedAsked, SharedGiven, told, calls-sharing}
-use Rattle.in_place.proofs.Frame.{entries, gather, free-rooms}
+use Rattle.in_place.proofs.Calls.{SharedAsked, SharedGiven, told, calls_sharing}
+use Rattle.in_place.proofs.Frame.{entries, gather, free_rooms}
 use Rattle.in_place.proofs.Locals.{Blocks, env}
 use Rattle.in_place.proofs.Params.{Param, slots, passed, args}
-use Rattle.in_place.proofs.RecordFields.{row, Holds, opens-panel, closes-panel}
+use Rattle.in_place.proofs.RecordFields.{row, Holds, opens_panel, closes_panel}
 use Rattle.in_place.proofs.Results.{Result}
 use Rattle.in_place.proofs.Steps.{hears}
-use Rattle.in_place.proofs.Taken.{ended, Entry, Exit, ends-resolved}
+use Rattle.in_place.proofs.Taken.{ended, Entry, Exit, ends_resolved}
 
 module _ {M : Type 1} {𝓤 : Ura M} {𝓛 : Logic 𝓤} {K : Type 0} {Γ : List (Item 𝓤)} {E : Env 𝓤 𝓛.H} {xs : List Operand} {G : Goal 𝓤 𝓛.H} {then : Val → Goal 𝓤 𝓛.H} where
   -- `run` is the function, and `makes-call` the rule of a call that stands in a sequence, or ends a part
@@ -61,18 +61,18 @@ module _ {M : Type 1} {𝓤 : Ura M} {𝓛 : Logic 𝓤} {K : Type 0} where
       (w : N.row.Denot) → Is N.row w (N.val w ∷ []) → (h : Record) (l : Fins κs (slots ps) (all yes (slots ps)) a) → ent 𝓤 (emp 𝓤) ((c κs (x, a)).ensures γ w (at_last x h, outs κs (slots ps) (all yes (slots ps)) a l)) → (Γ : List (Item 𝓤))
       → Seq K 𝓛 (entries 𝓤 τs bs cs ++ (‵ (fres x.ghost_name (row.coded.code h)) ∷ ‵ (lasts_of κs (slots ps) (all yes (slots ps)) a l) ∷ ‵ (flft κs.0 qs.0) ∷ raw (toks 𝓛 n κs.1 qs.1) ∷ Γ)) (frees (env τs bs ++ []) (prop (Exit row N.row tt ps 𝓛 c κs qs x a γ (N.val w))))
   ends_so t N ps c κs qs x a γ τs bs cs w is h l so Γ =
-      gather t τs bs cs $ free-rooms t τs bs [] $ free0 t $ keep t (0 ∷ 2 ∷ 3 ∷ 1 ∷ []) $ use0 𝓛 (raw (emp 𝓤)) (id⊢ 𝓤 _) $ move t (1 ∷ 2 ∷ 3 ∷ 0 ∷ 4 ∷ []) $
-      by t (ends-resolved row N.row tt ps 𝓛 c κs qs x a γ (N.makes 𝓛) w _ is h l (emp 𝓤) so)
+      gather t τs bs cs $ free_rooms t τs bs [] $ free0 t $ keep t (0 ∷ 2 ∷ 3 ∷ 1 ∷ []) $ use0 𝓛 (raw (emp 𝓤)) (id⊢ 𝓤 _) $ move t (1 ∷ 2 ∷ 3 ∷ 0 ∷ 4 ∷ []) $
+      by t (ends_resolved row N.row tt ps 𝓛 c κs qs x a γ (N.makes 𝓛) w _ is h l (emp 𝓤) so)
 
 -- ---- a function that looks at the record is lent it by `&`, with the number of slots
 module _ {M : Type 1} {𝓤 : Ura M} {𝓛 : Logic 𝓤} {K : Type 0} {Γ : List (Item 𝓤)} {E : Env 𝓤 𝓛.H} {C : Calls 𝓤 𝓛.H} {Λ : Loops 𝓤 𝓛.H} {q : Post 𝓤 𝓛.H} {f : Name} {xs : List Operand} {d : Place} {rest : Code} where
   open 𝓛 use {H}
 
-  pub lends-on : K → FmC 𝓤 H 𝓛.laws C → (κ : Lft) (s : Share) (x : MutBor Record) (n : ℕ) → n < 2 ^ 64 → (N : Result) {X : ℕ → GName → Type 0} (F : (ν : ℕ) (γ : GName) → X ν γ → Fml) (φ : N.row.Denot → Type 0)
+  pub lends_on : K → FmC 𝓤 H 𝓛.laws C → (κ : Lft) (s : Share) (x : MutBor Record) (n : ℕ) → n < 2 ^ 64 → (N : Result) {X : ℕ → GName → Type 0} (F : (ν : ℕ) (γ : GName) → X ν γ → Fml) (φ : N.row.Denot → Type 0)
       → ((ν : ℕ) (γ : GName) → ent 𝓤 (mean 𝓛 (SharedAsked 𝓛 x.now x.ref_ptr.0 x.ref_ptr.1 n ν γ)) (C f (vptr x.ref_ptr.0 x.ref_ptr.1 ∷ vint w64 n ∷ []) (SharedGiven 𝓛 N.row (λ ν' γ' r. ex 𝓤 (λ (l : X ν' γ'). sep 𝓤 (sem 𝓛 (F ν' γ' l)) (fact 𝓤 (φ r)))) ν γ)))
       → ((ν : ℕ) (γ : GName) → Opds K 𝓛 (SharedAsked 𝓛 x.now x.ref_ptr.0 x.ref_ptr.1 n ν γ ∷ ‵ (flent (ν ∷ []) (part_at row full_share x.now x.ref_ptr.0 x.ref_ptr.1)) ∷ ‵ (fobor κ s (Body (mem row) x.ref_ptr.0 x.ref_ptr.1 x.ghost_name)) ∷ ‵ (fobs x.ghost_name (row.coded.code x.now)) ∷ ‵ (fauth x.ghost_name (row.coded.code x.now)) ∷ Γ) E xs (vptr x.ref_ptr.0 x.ref_ptr.1 ∷ vint w64 n ∷ []))
       → (Holds x.now → (r : N.row.Denot) → Is N.row r (N.val r ∷ []) → φ r → Seq K 𝓛 (‵ (fobs x.ghost_name (row.coded.code x.now)) ∷ ‵ (fbor κ (Body (mem row) x.ref_ptr.0 x.ref_ptr.1 x.ghost_name)) ∷ ‵ (flft κ s) ∷ Γ) (lands C Λ E d (N.val r) rest q))
       → Seq K 𝓛 (‵ (fobs x.ghost_name (row.coded.code x.now)) ∷ ‵ (fbor κ (Body (mem row) x.ref_ptr.0 x.ref_ptr.1 x.ghost_name)) ∷ ‵ (flft κ s) ∷ Γ) (runs C Λ E (seq (call f xs d) rest) q)
-  lends-on t fm κ s x n l N {X} F φ met os k =
-      opens-panel t tt x.now x.ref_ptr.0 x.ref_ptr.1 (λ is. calls-sharing t fm x.now x.ref_ptr.0 x.ref_ptr.1 n is l N (λ ν γ r. ex 𝓤 (λ (l : X ν γ). sep 𝓤 (sem 𝓛 (F ν γ l)) (fact 𝓤 (φ r)))) met os (λ ν γ r is-r.
-      hears t (F ν γ) (λ _. φ r) (λ _ r-is. drop t $ closes-panel t tt x.now x.ref_ptr.0 x.ref_ptr.1 is $ k is r is-r r-is)))
+  lends_on t fm κ s x n l N {X} F φ met os k =
+      opens_panel t tt x.now x.ref_ptr.0 x.ref_ptr.1 (λ is. calls_sharing t fm x.now x.ref_ptr.0 x.ref_ptr.1 n is l N (λ ν γ r. ex 𝓤 (λ (l : X ν γ). sep 𝓤 (sem 𝓛 (F ν γ l)) (fact 𝓤 (φ r)))) met os (λ ν γ r is-r.
+      hears t (F ν γ) (λ _. φ r) (λ _ r-is. drop t $ closes_panel t tt x.now x.ref_ptr.0 x.ref_ptr.1 is $ k is r is-r r-is)))

@@ -80,50 +80,50 @@ module _ (O : Outcome) where
   laws = (LL.field_laws O.states.type O.states.laws O.states.lowers, (EL.field_laws O.answers.type O.answers.laws O.answers.few O.answers.lowers, tt))
 
   -- the rows and the MIR types
-  abbrev pub state-row : RattleType
-  state-row = D.row O.states.type
+  abbrev pub state_row : RattleType
+  state_row = D.row O.states.type
 
-  abbrev pub answer-row : RattleType
-  answer-row = E.row O.answers.type
+  abbrev pub answer_row : RattleType
+  answer_row = E.row O.answers.type
 
-  abbrev pub outcome-row : RattleType
-  outcome-row = D.row struct
+  abbrev pub outcome_row : RattleType
+  outcome_row = D.row struct
 
-  abbrev pub state-ty : Ty
-  state-ty = layout (D.shape O.states.type)
+  abbrev pub state_ty : Ty
+  state_ty = layout (D.shape O.states.type)
 
-  abbrev pub answer-ty : Ty
-  answer-ty = enum.layout (E.shape O.answers.type)
+  abbrev pub answer_ty : Ty
+  answer_ty = enum.layout (E.shape O.answers.type)
 
-  abbrev pub outcome-ty : Ty
-  outcome-ty = layout (D.shape struct)
+  abbrev pub outcome_ty : Ty
+  outcome_ty = layout (D.shape struct)
 
   -- the machine values
-  abbrev pub state-val : StateT → Val
-  state-val h = LL.val O.states.type O.states.laws h
+  abbrev pub state_val : StateT → Val
+  state_val h = LL.val O.states.type O.states.laws h
 
-  abbrev pub answer-val : AnswerT → Val
-  answer-val w = EL.val O.answers.type O.answers.laws w
+  abbrev pub answer_val : AnswerT → Val
+  answer_val w = EL.val O.answers.type O.answers.laws w
 
-  abbrev pub outcome-val : O.D → Val
-  outcome-val r = LL.val struct laws r
+  abbrev pub outcome_val : O.D → Val
+  outcome_val r = LL.val struct laws r
 
-  module _ (r : O.D) (u : Val) (is : Is outcome-row r (u ∷ [])) where
-    pub spelt : u ≡ vstruct (vcons (state-val (O.state r)) (vcons (answer-val (O.answer r)) vnil))
+  module _ (r : O.D) (u : Val) (is : Is outcome_row r (u ∷ [])) where
+    pub spelt : u ≡ vstruct (vcons (state_val (O.state r)) (vcons (answer_val (O.answer r)) vnil))
     spelt = ap only (LL.tells struct laws r (u ∷ []) is)
 
-    pub is_state : Is state-row (O.state r) (state-val (O.state r) ∷ [])
+    pub is_state : Is state_row (O.state r) (state_val (O.state r) ∷ [])
     is_state = (LL.owed struct laws r (u ∷ []) is).0
 
-    pub is-answer : Is answer-row (O.answer r) (answer-val (O.answer r) ∷ [])
-    is-answer = (LL.owed struct laws r (u ∷ []) is).1.0
+    pub is_answer : Is answer_row (O.answer r) (answer_val (O.answer r) ∷ [])
+    is_answer = (LL.owed struct laws r (u ∷ []) is).1.0
 
-    pub outcome-typed : {M : Type 1} {𝓤 : Ura M} (𝓛 : Logic 𝓤) → Holds (has_ty outcome-ty u) × WT u
-    outcome-typed 𝓛 = ((LL.lawful struct laws 𝓛).typed r (u ∷ []) is).0
+    pub outcome_typed : {M : Type 1} {𝓤 : Ura M} (𝓛 : Logic 𝓤) → Holds (has_ty outcome_ty u) × WT u
+    outcome_typed 𝓛 = ((LL.lawful struct laws 𝓛).typed r (u ∷ []) is).0
 
   module _ {M : Type 1} {𝓤 : Ura M} (𝓛 : Logic 𝓤) where
-    pub state-typed : (h : StateT) → Is state-row h (state-val h ∷ []) → Holds (has_ty state-ty (state-val h)) × WT (state-val h)
-    state-typed h is = ((LL.lawful O.states.type O.states.laws 𝓛).typed h (state-val h ∷ []) is).0
+    pub state_typed : (h : StateT) → Is state_row h (state_val h ∷ []) → Holds (has_ty state_ty (state_val h)) × WT (state_val h)
+    state_typed h is = ((LL.lawful O.states.type O.states.laws 𝓛).typed h (state_val h ∷ []) is).0
 
-    pub answer_typed : (w : AnswerT) → Is answer-row w (answer-val w ∷ []) → Holds (has_ty answer-ty (answer-val w)) × WT (answer-val w)
-    answer_typed w is = ((EL.lawful O.answers.type O.answers.laws 𝓛 O.answers.few).typed w (answer-val w ∷ []) is).0
+    pub answer_typed : (w : AnswerT) → Is answer_row w (answer_val w ∷ []) → Holds (has_ty answer_ty (answer_val w)) × WT (answer_val w)
+    answer_typed w is = ((EL.lawful O.answers.type O.answers.laws 𝓛 O.answers.few).typed w (answer_val w ∷ []) is).0

@@ -75,17 +75,17 @@ numbers n (suc k) = number ∷ numbers n k
 
 module _ (n : ℕ) (κs : Lfts n) where
   -- they are plain data, of which nothing is said at exit
-  pub numbers-make : {M : Type 1} {𝓤 : Ura M} (𝓛 : Logic 𝓤) → (k : ℕ) → Makess 𝓛 (types_at (slots (numbers n k)) κs) (Ises (types_at (slots (numbers n k)) κs))
-  numbers-make 𝓛 zero = tt
-  numbers-make 𝓛 (suc k) = (uint_Makes 𝓛 w32, numbers-make 𝓛 k)
+  pub numbers_make : {M : Type 1} {𝓤 : Ura M} (𝓛 : Logic 𝓤) → (k : ℕ) → Makess 𝓛 (types_at (slots (numbers n k)) κs) (Ises (types_at (slots (numbers n k)) κs))
+  numbers_make 𝓛 zero = tt
+  numbers_make 𝓛 (suc k) = (uint_Makes 𝓛 w32, numbers_make 𝓛 k)
 
-  abbrev pub numbers-last : (k : ℕ) (a : Denots (types_at (slots (numbers n k)) κs)) → Fins κs (slots (numbers n k)) (all yes (slots (numbers n k))) a
-  numbers-last zero a = tt
-  numbers-last (suc k) a = (tt, numbers-last k a.1)
+  abbrev pub numbers_last : (k : ℕ) (a : Denots (types_at (slots (numbers n k)) κs)) → Fins κs (slots (numbers n k)) (all yes (slots (numbers n k))) a
+  numbers_last zero a = tt
+  numbers_last (suc k) a = (tt, numbers_last k a.1)
 
-  pub numbers-left : {M : Type 1} {𝓤 : Ura M} (𝓛 : Logic 𝓤) (k : ℕ) (a : Denots (types_at (slots (numbers n k)) κs)) → ent 𝓤 (emp 𝓤) (sem 𝓛 (lasts_of κs (slots (numbers n k)) (all yes (slots (numbers n k))) a (numbers-last k a)))
-  numbers-left {𝓤 = 𝓤} 𝓛 zero a = id⊢ 𝓤 _
-  numbers-left {𝓤 = 𝓤} 𝓛 (suc k) a = via 𝓤 (sep 𝓤 (emp 𝓤) (emp 𝓤)) (emp∗ 𝓤 (emp 𝓤)) (mono_r 𝓤 (emp 𝓤) (numbers-left 𝓛 k a.1))
+  pub numbers_left : {M : Type 1} {𝓤 : Ura M} (𝓛 : Logic 𝓤) (k : ℕ) (a : Denots (types_at (slots (numbers n k)) κs)) → ent 𝓤 (emp 𝓤) (sem 𝓛 (lasts_of κs (slots (numbers n k)) (all yes (slots (numbers n k))) a (numbers_last k a)))
+  numbers_left {𝓤 = 𝓤} 𝓛 zero a = id⊢ 𝓤 _
+  numbers_left {𝓤 = 𝓤} 𝓛 (suc k) a = via 𝓤 (sep 𝓤 (emp 𝓤) (emp 𝓤)) (emp∗ 𝓤 (emp 𝓤)) (mono_r 𝓤 (emp 𝓤) (numbers_left 𝓛 k a.1))
 
 -- a `&[T]` of numbers, at the lifetime 'j
 abbrev pub slice : {n : ℕ} → Width → (j : ℕ) → Within n j → Param n

@@ -61,8 +61,8 @@ module _ {M : Type 1} (𝓤 : Ura M) (H : Heap 𝓤) (w : Width) (middle behind 
   first_made : get_or (env middle cs ++ (env (made w) ms ++ env behind ds)) (past middle 0) (no_local 𝓤 H) ≡ (pointer w, ms.0)
   first_made = past_is (no_local 𝓤 H) middle cs (env (made w) ms ++ env behind ds) 0
 
-  second-made : get_or (env middle cs ++ (env (made w) ms ++ env behind ds)) (past middle 1) (no_local 𝓤 H) ≡ (slice_ty (pointer w), ms.1.0)
-  second-made = past_is (no_local 𝓤 H) middle cs (env (made w) ms ++ env behind ds) 1
+  second_made : get_or (env middle cs ++ (env (made w) ms ++ env behind ds)) (past middle 1) (no_local 𝓤 H) ≡ (slice_ty (pointer w), ms.1.0)
+  second_made = past_is (no_local 𝓤 H) middle cs (env (made w) ms ++ env behind ds) 1
 
 pub lending_hands : {M : Type 1} {𝓤 : Ura M} (𝓛 : Logic 𝓤) (w : Width) (middle behind : List Ty) (τ : Ty) (at : ℕ × ℕ) (n : ℕ) → Typed (slice_ty τ ∷ []) (slice_val at n ∷ []) → Hands 𝓛 (slice_ty τ ∷ []) middle behind (slice_val at n ∷ []) (lending w middle)
 lending_hands {𝓤 = 𝓤} 𝓛 w middle behind τ at n ok = record {
@@ -71,10 +71,10 @@ lending_hands {𝓤 = 𝓤} 𝓛 w middle behind τ at n ok = record {
   runs_before = λ Γ C Λ bs cs ms ds e₀ e₁ rest q. step (λ s. fsplit3 ! $ move ! (3 ∷ []) $ fsplit3 ! $ move ! (2 ∷ []) $ fsplit3 ! $
       -- [the second local made; …; the first at 3; …; the slice at 5; …]
       assigns ! (addr ! (from ! (fld ! refl (hop ! (look_in ! 5 (sub ! 0 refl (whole !))) (stop !))))) (found ! (first_made 𝓤 𝓛.H w middle behind cs ms ds) (stop !)) (init ! 3 refl (tt, tt)) $
-      assigns ! (agg ! (and_then ! (load ! (found ! (first_made 𝓤 𝓛.H w middle behind cs ms ds) (stop !)) (look ! 3 refl)) (and_then ! (load ! (from ! (fld ! refl (stop !))) (look_in ! 5 (sub ! 1 refl (whole !)))) (no_more !)))) (found ! (second-made 𝓤 𝓛.H w middle behind cs ms ds) (stop !)) (init ! 0 refl (tt, ok.0.1)) $
+      assigns ! (agg ! (and_then ! (load ! (found ! (first_made 𝓤 𝓛.H w middle behind cs ms ds) (stop !)) (look ! 3 refl)) (and_then ! (load ! (from ! (fld ! refl (stop !))) (look_in ! 5 (sub ! 1 refl (whole !)))) (no_more !)))) (found ! (second_made 𝓤 𝓛.H w middle behind cs ms ds) (stop !)) (init ! 0 refl (tt, ok.0.1)) $
       fjoin3 ! $ move ! (1 ∷ 2 ∷ 0 ∷ []) $ fjoin3 ! $ move ! (1 ∷ 2 ∷ 3 ∷ []) $ fjoin3 ! $ s);
   read = λ i Γ bs cs ms ds e₀ e₁. at_entry _ 2 (in_tail _ _ (slice_ty (pointer w) ∷ []) ms _ (slice_val at n ∷ [])
-      (reads _ ! (made_at middle 1) (slice_ty (pointer w) ∷ []) ms.1 (slice_val at n ∷ []) ((tt, ok.0.1), tt) (second-made 𝓤 𝓛.H w middle behind cs ms ds, tt)));
+      (reads _ ! (made_at middle 1) (slice_ty (pointer w) ∷ []) ms.1 (slice_val at n ∷ []) ((tt, ok.0.1), tt) (second_made 𝓤 𝓛.H w middle behind cs ms ds, tt)));
 }
 
 abbrev pub lent : {n : ℕ} (w : Width) (j : ℕ) (ok : Within n j) {middle behind : List Ty} → Passing (slice_mut {n = n} w j ok ∷ []) middle behind

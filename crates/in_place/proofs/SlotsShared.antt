@@ -22,10 +22,10 @@ use Rattle.in_place.proofs.Params.{slots, passed}
 use Rattle.in_place.proofs.WritersStep.{lent}
 
 module _ {M : Type 1} {𝓤 : Ura M} {𝓛 : Logic 𝓤} {K : Type 0} {Γ : List (Item 𝓤)} {G : Goal 𝓤 𝓛.H} where
-  pub shares-slots : K → Soaks G → (κs : Lfts 2) (qs : Shares 2) (s : Bor (List ℕ))
+  pub shares_slots : K → Soaks G → (κs : Lfts 2) (qs : Shares 2) (s : Bor (List ℕ))
       → ((γ : GName) → Seq K 𝓛 (‵ ((ShrSlice (named 1) κs.1.0 u64).own_val (renamed s γ) (slice_val s.ref_ptr (length s.now) ∷ [])) ∷ ‵ (lasts_of κs (slots lent) (all yes (slots lent)) (s, tt) (s.now, tt)) ∷ raw (toks 𝓛 1 κs.1 qs.1) ∷ Γ) G)
       → Seq K 𝓛 (‵ (owns (types_at (slots lent) κs) (s, tt) (passed κs lent (s, tt))) ∷ raw (toks 𝓛 1 κs.1 qs.1) ∷ Γ) G
-  shares-slots t z κs qs s k =
+  shares_slots t z κs qs s k =
       fsplit t $ move t (1 ∷ []) $ drop t $ fsplit t $ fsplit t $ drop t $ fjoin t $ move t (1 ∷ []) $ use1 𝓛 (‵ (flft κs.1.0 qs.1.0) ⊛ raw (emp 𝓤)) (id⊢ 𝓤 _) $ split t $ move t (2 ∷ 0 ∷ []) $ join t $
       -- [what the reference owns, with its token; no more tokens]
       use1 𝓛 (later (some (λ (γ : GName). ‵ ((Shared erased κs.1.0 u64).own_val (renamed s γ)) ⊛ (‵ (finally u64 s.ghost_name s.now) ⊛ ‵ (flft κs.1.0 qs.1.0))))) (sl_Share 𝓛 u64 s.ref_ptr.0 s.ref_ptr.1 s.ghost_name s.now κs.1.0 qs.1.0) $ await t z $ pick t (λ γ. split t $ move t (1 ∷ []) $ split t $

@@ -23,8 +23,8 @@ module _ {M : Type 1} {𝓤 : Ura M} {𝓛 : Logic 𝓤} {K : Type 0} {Γ : List
   -- a local, which is entry n, as an operand
   open 𝓛 use {H}
 
-  pub of-local : K → {E : Env 𝓤 H} {i : ℕ} (n : ℕ) {q : Share} {v : Val} → nth 𝓛 n Γ ≡ ‵ (fat q (spot_of 𝓤 H E i).0 (spot_of 𝓤 H E i).1 0 v) → Opd K 𝓛 Γ E (copy (place i [])) v
-  of-local t n e = load t (from t (stop t)) (look t n e)
+  pub of_local : K → {E : Env 𝓤 H} {i : ℕ} (n : ℕ) {q : Share} {v : Val} → nth 𝓛 n Γ ≡ ‵ (fat q (spot_of 𝓤 H E i).0 (spot_of 𝓤 H E i).1 0 v) → Opd K 𝓛 Γ E (copy (place i [])) v
+  of_local t n e = load t (from t (stop t)) (look t n e)
 
   -- what a contract ensures beside the parameters' last values
   pub hears : K → {G : Goal 𝓤 H} {X : Type 0} (F : X → Fml) (φ : X → Type 0) → ((x : X) → φ x → Seq K 𝓛 (‵ (F x) ∷ Γ) G) → Seq K 𝓛 (raw (ex 𝓤 (λ (x : X). sep 𝓤 (sem 𝓛 (F x)) (fact 𝓤 (φ x)))) ∷ Γ) G

@@ -50,9 +50,9 @@ module _ (R N : RattleType) (single : One R.mir) {n : ℕ} (ps : List (Param (su
     Exit v = H.⇛ (ex 𝓤 (Result v))
 
     -- the function ends with the answer w and the state h, which is the last: what is left when its code has run, S being what it was told of them
-    pub ends-resolved : Makes 𝓛 N (Is N) → (w : N.Denot) (v : Val) → Is N w (v ∷ []) → (h : R.Denot) (l : Fins κs (slots ps) (all yes (slots ps)) a) (S : SProp 𝓤) → ent 𝓤 S ((c κs (x, a)).ensures γ w (at_last x h, outs κs (slots ps) (all yes (slots ps)) a l))
+    pub ends_resolved : Makes 𝓛 N (Is N) → (w : N.Denot) (v : Val) → Is N w (v ∷ []) → (h : R.Denot) (l : Fins κs (slots ps) (all yes (slots ps)) a) (S : SProp 𝓤) → ent 𝓤 S ((c κs (x, a)).ensures γ w (at_last x h, outs κs (slots ps) (all yes (slots ps)) a l))
         → ent 𝓤 (⋆ 𝓛 (‵ (fres x.name (R.coded.code h)) ∷ ‵ (flft κs.0 qs.0) ∷ raw (toks 𝓛 n κs.1 qs.1) ∷ raw S ∷ ‵ (lasts_of κs (slots ps) (all yes (slots ps)) a l) ∷ [])) (Exit v)
-    ends-resolved mk w v is h l S so =
+    ends_resolved mk w v is h l S so =
         qed 𝓛 (‵ (fres x.name (R.coded.code h)) ∷ ‵ (flft κs.0 qs.0) ∷ raw (toks 𝓛 n κs.1 qs.1) ∷ raw S ∷ ‵ (lasts_of κs (slots ps) (all yes (slots ps)) a l) ∷ []) ∵
         updating ! $ at_once ! $ show ! (Result v) w $ owned ! N (Is N) mk w (v ∷ []) is $ move ! (2 ∷ 3 ∷ 0 ∷ []) $ join ! $ move ! (0 ∷ 1 ∷ []) $ join ! $ frame ! $
         -- [its last state; what was told; what is said of the last values]
@@ -64,7 +64,7 @@ module _ (R N : RattleType) (single : One R.mir) {n : ℕ} (ps : List (Param (su
         → ent 𝓤 (⋆ 𝓛 (‵ (fobs x.name (R.coded.code h)) ∷ ‵ (flft κs.0 qs.0) ∷ raw (toks 𝓛 n κs.1 qs.1) ∷ raw S ∷ ‵ (lasts_of κs (slots ps) (all yes (slots ps)) a l) ∷ [])) (Exit v)
     ends mk w v is h l S so =
         qed 𝓛 (‵ (fobs x.name (R.coded.code h)) ∷ ‵ (flft κs.0 qs.0) ∷ raw (toks 𝓛 n κs.1 qs.1) ∷ raw S ∷ ‵ (lasts_of κs (slots ps) (all yes (slots ps)) a l) ∷ []) ∵
-        use1 𝓛 (‵ (fres x.name (R.coded.code h))) (𝓛.names.obs-res x.name (R.coded.code h)) $ by ! (ends-resolved mk w v is h l S so)
+        use1 𝓛 (‵ (fres x.name (R.coded.code h))) (𝓛.names.obs-res x.name (R.coded.code h)) $ by ! (ends_resolved mk w v is h l S so)
 
   module _ {M : Type 1} {𝓤 : Ura M} (𝓛 : Logic 𝓤) (c : Clauses 𝓤 ended) (fn : Fn) (𝓣 : Tables 𝓤 𝓛.H) where
     open 𝓛 use {H}

@@ -10,20 +10,20 @@ module _ {X : Type 0} (test : X → Bool) where
   abbrev pub joined : Bool → X → Bool
   joined before x = both before (test x)
 
-  both-both : (a b c : Bool) → both (both a b) c ≡ both a (both b c)
+  both_both : (a b c : Bool) → both (both a b) c ≡ both a (both b c)
   unfolding both
-  both-both true b c = refl
-  both-both false b c = refl
+  both_both true b c = refl
+  both_both false b c = refl
 
-  true-both : (a : Bool) → both true a ≡ a
+  true_both : (a : Bool) → both true a ≡ a
   unfolding both
-  true-both true = refl
-  true-both false = refl
+  true_both true = refl
+  true_both false = refl
 
-  from-before : (before : Bool) (xs : List X) → folded joined before xs ≡ both before (all test xs)
+  from_before : (before : Bool) (xs : List X) → folded joined before xs ≡ both before (all test xs)
   unfolding all
-  from-before before [] = sym (both_with before true refl)
-  from-before before (x ∷ xs) = from-before (both before (test x)) xs ∙ both-both before (test x) (all test xs)
+  from_before before [] = sym (both_with before true refl)
+  from_before before (x ∷ xs) = from_before (both before (test x)) xs ∙ both_both before (test x) (all test xs)
 
   pub tested : (xs : List X) → folded joined true xs ≡ all test xs
-  tested xs = from-before true xs ∙ true-both (all test xs)
+  tested xs = from_before true xs ∙ true_both (all test xs)

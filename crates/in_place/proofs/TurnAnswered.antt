@@ -25,7 +25,7 @@ use Rattle.answers.specs.Answers.{paper_step, paper_turn}
 use Rattle.dispatcher.specs.Due.{turn_answer}
 use Rattle.dispatcher.specs.contracts.turn_answer as answer
 use Rattle.dispatcher.proofs.turn_answer.Symbol.{name as #answer}
-use Rattle.in_place.proofs.Calls.{Asked, calls-plain}
+use Rattle.in_place.proofs.Calls.{Asked, calls_plain}
 use Rattle.in_place.proofs.Results.{step_result, turn_result}
 use Rattle.in_place.proofs.Steps.{hears}
 
@@ -36,9 +36,9 @@ module _ {M : Type 1} {𝓤 : Ura M} (𝓛 : Logic 𝓤) (mem : Memory → SProp
     (due : ℕ) (fits : due < 2 ^ 32) (w : StepAnswer) (is : Is step_result.row w (step_result.val w ∷ [])) {Γ : List (Item 𝓤)} {E : Env 𝓤 𝓛.H} {xs : List Operand} {d : Place} {rest : Code} {q : Post 𝓤 𝓛.H} where
   open 𝓛 use {H}
 
-  pub answers-turn : Opds (Go {0}) 𝓛 (Asked 𝓛 (emp 𝓤) Rows (due, (w, tt)) (vint w32 due ∷ [], (step_result.val w ∷ [], tt)) ∷ Γ) E xs (vint w32 due ∷ step_result.val w ∷ [])
+  pub answers_turn : Opds (Go {0}) 𝓛 (Asked 𝓛 (emp 𝓤) Rows (due, (w, tt)) (vint w32 due ∷ [], (step_result.val w ∷ [], tt)) ∷ Γ) E xs (vint w32 due ∷ step_result.val w ∷ [])
       → ((t : TurnAnswer) → Is turn_result.row t (turn_result.val t ∷ []) → paper_turn t ≡ turn_answer due (paper_step w) → Sq 𝓛 Γ (lands 𝓣.C 𝓣.Λ E d (turn_result.val t) rest q)) → Sq 𝓛 Γ (runs 𝓣.C 𝓣.Λ E (seq (call #answer xs d) rest) q)
-  answers-turn os k =
-      calls-plain ! (fm_of 𝓤 H 𝓛.laws 𝓣) Rows (uint_Makes 𝓛 w32, (step_result.makes 𝓛, tt)) (due, (w, tt)) (vint w32 due ∷ [], (step_result.val w ∷ [], tt)) ((refl, fits), (is, tt)) turn_result.row turn_result.val turn_result.tells
+  answers_turn os k =
+      calls_plain ! (fm_of 𝓤 H 𝓛.laws 𝓣) Rows (uint_Makes 𝓛 w32, (step_result.makes 𝓛, tt)) (due, (w, tt)) (vint w32 due ∷ [], (step_result.val w ∷ [], tt)) ((refl, fits), (is, tt)) turn_result.row turn_result.val turn_result.tells
       (λ t. (answer.spec 𝓛 mem run tt (due, (w, tt))).ensures tt t) (met ((tt, tt, tt, (due, (w, tt)), (vint w32 due ∷ [], (step_result.val w ∷ [], tt))), tt)) os (λ t is-t.
       hears ! (lasts_of tt (answer.signature).params (answer.ended).kept (due, (w, tt))) (λ _. paper_turn t ≡ turn_answer due (paper_step w)) (λ _ t-is. drop ! $ k t is-t t-is))

@@ -50,12 +50,12 @@ module _ {M : Type 1} {𝓤 : Ura M} (𝓛 : Logic 𝓤) (mem-of : Memory → SP
     (κs : Lfts 2) (qs : Shares 2) (x : MutBor Record) (s : MutBor (List ℕ)) (fit : Bool) {Γ : List (Item 𝓤)} {E : Env 𝓤 𝓛.H} {xs : List Operand} {d : Place} {rest : Code} {q : Post 𝓤 𝓛.H} where
   open 𝓛 use {H}
 
-  pub steps-writer : Opds (Go {0}) 𝓛 (Entry row step_result.row tt lent_and_fit 𝓛 (step.clauses 𝓛 mem-of run) κs qs x (s, (fit, tt)) tt ∷ Γ) E xs (vptr x.ref_ptr.0 x.ref_ptr.1 ∷ slice_val s.ref_ptr (length s.now) ∷ vbool fit ∷ [])
+  pub steps_writer : Opds (Go {0}) 𝓛 (Entry row step_result.row tt lent_and_fit 𝓛 (step.clauses 𝓛 mem-of run) κs qs x (s, (fit, tt)) tt ∷ Γ) E xs (vptr x.ref_ptr.0 x.ref_ptr.1 ∷ slice_val s.ref_ptr (length s.now) ∷ vbool fit ∷ [])
       → ((w : step_result.row.Denot) → Is step_result.row w (step_result.val w ∷ []) → (h : Record) (after : List ℕ) → outcome h after (paper_step w) ≡ step_stored fit x.now s.now
       → Sq 𝓛 (‵ (fres x.ghost_name (row.coded.code h)) ∷ ‵ (lasts_of κs (slots lent) (all yes (slots lent)) (s, tt) (after, tt)) ∷ ‵ (flft κs.0 qs.0) ∷ raw (toks 𝓛 1 κs.1 qs.1) ∷ Γ) (lands 𝓣.C 𝓣.Λ E d (step_result.val w) rest q))
       → Sq 𝓛 (‵ (fobs x.ghost_name (row.coded.code x.now)) ∷ ‵ (fbor κs.0 (Body (mem row) x.ref_ptr.0 x.ref_ptr.1 x.ghost_name)) ∷ ‵ (flft κs.0 qs.0) ∷ ‵ (owns (types_at (slots lent) κs) (s, tt) (passed κs lent (s, tt))) ∷ raw (toks 𝓛 1 κs.1 qs.1) ∷ Γ)
       (runs 𝓣.C 𝓣.Λ E (seq (call #step xs d) rest) q)
-  steps-writer os k =
+  steps_writer os k =
       move ! (3 ∷ []) $ fsplit ! $ owned ! bool (Is bool) (bool_Makes 𝓛) fit (vbool fit ∷ []) refl $ move ! (0 ∷ 2 ∷ []) $ fjoin ! $ move ! (1 ∷ 0 ∷ []) $ fjoin ! $ move ! (1 ∷ 2 ∷ 3 ∷ 0 ∷ []) $
       hands_on ! (𝓣.C #step) (calls_from ! (fm_of 𝓤 H 𝓛.laws 𝓣)) (λ _. tt) step_result lent_and_fit (step.clauses 𝓛 mem-of run) κs qs x (s, (fit, tt)) tt (id⊢ 𝓤 _) (met ((κs, qs, tt, (x, (s, (fit, tt))), (vptr x.ref_ptr.0 x.ref_ptr.1 ∷ [], passed κs lent_and_fit (s, (fit, tt)))), tt)) os (λ w is-w h l.
       heard ! (outcome h l.0 (paper_step w) ≡ step_stored fit x.now s.now) (λ w-is.

@@ -29,17 +29,17 @@ use denote.Triple.End.{all, Fins, Outs, outs, lasts_of}
 use denote.Triple.Entry.{Vals}
 use denote.Triple.Spec.{Meets, triple_of}
 use denote.Triple.Table.{entered}
-use Rattle.in_place.proofs.Outcome.{Outcome, StateT, AnswerT, state-row}
+use Rattle.in_place.proofs.Outcome.{Outcome, StateT, AnswerT, state_row}
 use Rattle.in_place.proofs.Params.{Param, slots, tys, spells, tellss, passed, args, well_typed}
 use Rattle.in_place.proofs.Passing.{Passing}
 use Rattle.in_place.proofs.Walk.{Further, Entry, Exit}
-use Rattle.lent_record.proofs.Lending.{given-row, Made, middle, behind, function, walk}
+use Rattle.lent_record.proofs.Lending.{given_row, Made, middle, behind, function, walk}
 
 module _ (O : Outcome) (m : Made O) {n : ℕ} (ps : List (Param n)) where
   -- the signature, with each parameter's last value in the contract
   abbrev pub ended : Ended
   ended = record {
-    signature = record { lifetimes = n; outlives = []; params = plain (λ κs. state-row O) ∷ slots ps; result = plain (λ κs. given-row O m.order) };
+    signature = record { lifetimes = n; outlives = []; params = plain (λ κs. state_row O) ∷ slots ps; result = plain (λ κs. given_row O m.order) };
     kept = (yes, all yes (slots ps));
   }
 
@@ -51,8 +51,8 @@ module _ (O : Outcome) (m : Made O) {n : ℕ} (ps : List (Param n)) where
     abbrev pub LastT : Type 0
     LastT = Fins κs (slots ps) (all yes (slots ps)) a
 
-    abbrev pub at-reference : ℕ → List Val × Valss (types_at (slots ps) κs)
-    at-reference b = (vptr b 0 ∷ [], passed κs ps a)
+    abbrev pub at_reference : ℕ → List Val × Valss (types_at (slots ps) κs)
+    at_reference b = (vptr b 0 ∷ [], passed κs ps a)
 
     -- the callee's parameters at exit
     abbrev pub at_exit : StateT O → StateT O → LastT → MutBor (StateT O) × Outs κs (slots ps) (all yes (slots ps))
@@ -65,7 +65,7 @@ module _ (O : Outcome) (m : Made O) {n : ℕ} (ps : List (Param n)) where
     pub record Ensured : Type 2 where
       pub says : (κs : Lfts n) (h : StateT O) (a : Denots (types_at (slots ps) κs)) → AnswerT O → StateT O → LastT κs a → SProp 𝓤
       pub so : (κs : Lfts n) (h : StateT O) (a : Denots (types_at (slots ps) κs)) (γ : (c κs (h, a)).ghost) (h' : StateT O) (w : AnswerT O) (l : LastT κs a)
-          → ent 𝓤 (says κs h a w h' l) ((c κs (h, a)).ensures γ (m.make h' w) (see ((state-row O).exit yes) h (m.last h), outs κs (slots ps) (all yes (slots ps)) a l))
+          → ent 𝓤 (says κs h a w h' l) ((c κs (h, a)).ensures γ (m.make h' w) (see ((state_row O).exit yes) h (m.last h), outs κs (slots ps) (all yes (slots ps)) a l))
 
     module _ (e : Ensured) where
       abbrev further : (κs : Lfts n) → Shares n → (h : StateT O) (a : Denots (types_at (slots ps) κs)) → (c κs (h, a)).ghost → Further 𝓤 O
@@ -97,7 +97,7 @@ module _ (O : Outcome) (m : Made O) {n : ℕ} (ps : List (Param n)) where
           (via 𝓤 (sep 𝓤 (wand 𝓤 Need (Runs y.0.4)) Need)
           -- the parameters' machine values are written out
           (mono_l 𝓤 Need (said 𝓛 ended.signature κs y.0.1 (LL.vals O.states.type O.states.laws, spells κs ps) (LL.tells O.states.type O.states.laws, tellss κs ps) (h, a) (λ us. wand 𝓤 Need (Runs us)) y.0.4 (λ are.
-          wand_i 𝓤 _ Need _ (walk O m 𝓛 h (further κs y.0.1 h a y.1) (λ r k l. (c κs (h, a)).ensures y.1 r (see ((state-row O).exit yes) h k, outs κs (slots ps) (all yes (slots ps)) a l)) (e.so κs h a y.1) 𝓣.C 𝓣.Λ (fm_of 𝓤 H 𝓛.laws 𝓣) n #callee (tys ps) (args κs ps a) (well_typed κs 𝓛 ps a are.1) p.handing (p.hands 𝓛 κs a are.1) (met κs y.0.1 h a y.1)))))
+          wand_i 𝓤 _ Need _ (walk O m 𝓛 h (further κs y.0.1 h a y.1) (λ r k l. (c κs (h, a)).ensures y.1 r (see ((state_row O).exit yes) h k, outs κs (slots ps) (all yes (slots ps)) a l)) (e.so κs h a y.1) 𝓣.C 𝓣.Λ (fm_of 𝓤 H 𝓛.laws 𝓣) n #callee (tys ps) (args κs ps a) (well_typed κs 𝓛 ps a are.1) p.handing (p.hands 𝓛 κs a are.1) (met κs y.0.1 h a y.1)))))
           (comm∗ 𝓤 (wand 𝓤 Need (Runs y.0.4)) Need))
           (apply∗ 𝓤 Need (Runs y.0.4))
 

@@ -35,7 +35,7 @@ use denote.Ref.{MutRef}
 use denote.Steps.{only, owned, peeks, nothing}
 use denote.Triple.Call.{calls_from}
 use Rattle.in_place.proofs.Locals.{locals, Blocks, env, rooms, cells, allocate}
-use Rattle.in_place.proofs.Outcome.{Outcome, StateT, AnswerT, state-row, answer-row, state-ty, answer-ty, state-val, answer-val, state-typed}
+use Rattle.in_place.proofs.Outcome.{Outcome, StateT, AnswerT, state_row, answer_row, state_ty, answer_ty, state_val, answer_val, state_typed}
 use Rattle.lent_record.proofs.LentLocal.{lends_local, comes_home}
 
 -- ---- locals of any types that are rooms again after an iteration, and are freed at the end
@@ -48,9 +48,9 @@ module _ {M : Type 1} {𝓤 : Ura M} {𝓛 : Logic 𝓤} {K : Type 0} where
   empty t (τ ∷ τs) bs [] ok = absurd ok
   empty t (τ ∷ τs) bs (v ∷ vs) ok = step (λ s. fsplit3 t $ forget t 0 refl $ move t (2 ∷ []) $ empty t τs bs.1 vs ok.1 $ move t (1 ∷ 2 ∷ 0 ∷ []) $ fjoin3 t $ s)
 
-  free-rooms : {Γ : List (Item 𝓤)} → K → (τs : List Ty) (bs : Blocks τs) (E : Env 𝓤 H) {G : Goal 𝓤 H} → Step K 𝓛 Γ (frees E G) (‵ (rooms τs bs) ∷ Γ) (frees (env τs bs ++ E) G)
-  free-rooms t [] bs E = drop t
-  free-rooms t (τ ∷ τs) bs E = step (λ s. fsplit3 t $ free1 t $ free-rooms t τs bs.1 E $ s)
+  free_rooms : {Γ : List (Item 𝓤)} → K → (τs : List Ty) (bs : Blocks τs) (E : Env 𝓤 H) {G : Goal 𝓤 H} → Step K 𝓛 Γ (frees E G) (‵ (rooms τs bs) ∷ Γ) (frees (env τs bs ++ E) G)
+  free_rooms t [] bs E = drop t
+  free_rooms t (τ ∷ τs) bs E = step (λ s. fsplit3 t $ free1 t $ free_rooms t τs bs.1 E $ s)
 
 -- ---- the arguments behind the reference: the locals made for them, from number 10 on, the statements before the call, and the operands
 pub record Arguments : Type 0 where
@@ -80,14 +80,14 @@ pub record Gives {M : Type 1} {𝓤 : Ura M} (𝓛 : Logic 𝓤) (τ : Ty) (v : 
 
 module _ (O : Outcome) where
   abbrev R : RattleType
-  R = state-row O
+  R = state_row O
 
-  abbrev lentTy : Ty
-  lentTy = ty_ref erased mut (pointee R.written)
+  abbrev lent_ty : Ty
+  lent_ty = ty_ref erased mut (pointee R.written)
 
   -- ---- the MIR
-  abbrev iteration-of : Name → Name → Arguments → Body
-  iteration-of #callee #sum g = seq (assign (place 8 []) (op2 (lt unsigned) (copy (place 6 [])) (copy (place 3 []))))
+  abbrev iteration_of : Name → Name → Arguments → Body
+  iteration_of #callee #sum g = seq (assign (place 8 []) (op2 (lt unsigned) (copy (place 6 [])) (copy (place 3 []))))
       (seq (cond (copy (place 8 [])) skip (exit 1))
       (seq (assign (place 9 []) (addr_of (place 4 [])))
       (g.before (seq (call #callee (copy (place 9 []) ∷ g.operands) (place 7 []))
@@ -102,11 +102,11 @@ module _ (O : Outcome) where
     lifetimes = 1;
     outlives = [];
     params = 3;
-    locals = local sum_ty value_local ∷ local (state-ty O) value_local ∷ local τ value_local ∷ local number value_local ∷ local (state-ty O) memory_slot ∷ local sum_ty value_local ∷ local number value_local ∷ local (answer-ty O) value_local ∷ local ty_bool value_local ∷ local lentTy value_local ∷ (locals g.made ++ []);
+    locals = local sum_ty value_local ∷ local (state_ty O) value_local ∷ local τ value_local ∷ local number value_local ∷ local (state_ty O) memory_slot ∷ local sum_ty value_local ∷ local number value_local ∷ local (answer_ty O) value_local ∷ local ty_bool value_local ∷ local lent_ty value_local ∷ (locals g.made ++ []);
     body = seq (assign (place 4 []) (rv_opd (copy (place 1 []))))
         (seq (assign (place 5 []) (rv_opd (int w64 0)))
         (seq (assign (place 6 []) (rv_opd (int w32 0)))
-        (seq (block (loop (iteration-of #callee #sum g))) rest)));
+        (seq (block (loop (iteration_of #callee #sum g))) rest)));
   }
 
   -- where an iteration begins: i, the sum, and the state
@@ -115,7 +115,7 @@ module _ (O : Outcome) where
     s : ℕ
     h : StateT O
     fits : s < 2 ^ 64
-    is : Is R h (state-val O h ∷ [])
+    is : Is R h (state_val O h ∷ [])
 
   module _ {M : Type 1} {𝓤 : Ura M} (𝓛 : Logic 𝓤) (F : SProp 𝓤) where
     -- what the call in place is given, of a state that is lent for the lifetime ν, and what it gives back
@@ -125,18 +125,18 @@ module _ (O : Outcome) where
     Lent ν b γ h = (‵ (flft (ν ∷ []) full_share) ⊛ ‵ ((MutRef (named 0) (ν ∷ []) R).own_val (record { ref_ptr = (b, 0); ghost_name = γ; now = h }) (vptr b 0 ∷ []))) ⊛ raw F
 
     abbrev pub Back : (ν : ℕ) (γ : GName) → Val → Item 𝓤
-    Back ν γ u = later (some (λ (w : AnswerT O). some (λ (h : StateT O). (‵ (flft (ν ∷ []) full_share) ⊛ ‵ ((answer-row O).own_val w (u ∷ []))) ⊛ (‵ (fres γ (R.coded.code h)) ⊛ raw F))))
+    Back ν γ u = later (some (λ (w : AnswerT O). some (λ (h : StateT O). (‵ (flft (ν ∷ []) full_share) ⊛ ‵ ((answer_row O).own_val w (u ∷ []))) ⊛ (‵ (fres γ (R.coded.code h)) ⊛ raw F))))
 
     -- what the sum's function is given of a sum and an answer, and what it gives, of which `more` is not looked at
     abbrev pub Summing : ℕ → AnswerT O → Item 𝓤
-    Summing s w = (‵ ftrue ⊛ ‵ (fsep (u64.own_val s (vint w64 s ∷ [])) (fsep ((answer-row O).own_val w (answer-val O w ∷ [])) ftrue))) ⊛ ‵ ftrue
+    Summing s w = (‵ ftrue ⊛ ‵ (fsep (u64.own_val s (vint w64 s ∷ [])) (fsep ((answer_row O).own_val w (answer_val O w ∷ [])) ftrue))) ⊛ ‵ ftrue
 
     abbrev pub Summed : (ℕ → SProp 𝓤) → Val → Item 𝓤
     Summed more u = later (some (λ (s : ℕ). (‵ ftrue ⊛ ‵ (u64.own_val s (u ∷ []))) ⊛ raw (more s)))
 
-    module _ (τ : Ty) (v : Val) (n : ℕ) (n-fits : n < 2 ^ 32) (vs : ℕ → List Val) (g : Arguments) (gives : Gives 𝓛 τ v n vs g) (#callee #sum : Name) (𝓣 : Tables 𝓤 H)
+    module _ (τ : Ty) (v : Val) (n : ℕ) (n_fits : n < 2 ^ 32) (vs : ℕ → List Val) (g : Arguments) (gives : Gives 𝓛 τ v n vs g) (#callee #sum : Name) (𝓣 : Tables 𝓤 H)
         (met : (ν b : ℕ) (γ : GName) (h : StateT O) (i : ℕ) → i < n → ent 𝓤 (mean 𝓛 (Lent ν b γ h)) (H.⇛ (𝓣.C #callee (vptr b 0 ∷ vs i) (λ u. mean 𝓛 (Back ν γ u)))))
-        (more : ℕ → AnswerT O → ℕ → SProp 𝓤) (adds : (s : ℕ) (w : AnswerT O) → ent 𝓤 (mean 𝓛 (Summing s w)) (𝓣.C #sum (vint w64 s ∷ answer-val O w ∷ []) (λ u. mean 𝓛 (Summed (more s w) u))))
+        (more : ℕ → AnswerT O → ℕ → SProp 𝓤) (adds : (s : ℕ) (w : AnswerT O) → ent 𝓤 (mean 𝓛 (Summing s w)) (𝓣.C #sum (vint w64 s ∷ answer_val O w ∷ []) (λ u. mean 𝓛 (Summed (more s w) u))))
         (Q : Val → SProp 𝓤) (ends : (s : ℕ) → s < 2 ^ 64 → ent 𝓤 F (Q (vint w64 s))) where
       abbrev Nearer : Iteration → Iteration → Type 0
       Nearer t' t = n - t'.i < n - t.i
@@ -145,7 +145,7 @@ module _ (O : Outcome) where
       Nearer-wf = InvImage.wf (λ (t : Iteration). n - t.i) lt-wf_rel.wf
 
       fits_next : (i : ℕ) → i < n → i + 1 < 2 ^ 32
-      fits_next i less = omega (n-fits, less, arith)
+      fits_next i less = omega (n_fits, less, arith)
 
       nearer : (i : ℕ) → i < n → n - (i + 1) < n - i
       nearer i less = omega (less, arith)
@@ -153,24 +153,24 @@ module _ (O : Outcome) where
       sum_typed : (s : ℕ) → s < 2 ^ 64 → Holds (has_ty sum_ty (vint w64 s)) × WT (vint w64 s)
       sum_typed s fits = (tt, record { fits = fits })
 
-      told : (w : AnswerT O) {u : Val} → Is (answer-row O) w (u ∷ []) → Is (answer-row O) w (answer-val O w ∷ [])
-      told w is = subst (λ (us : List Val). Is (answer-row O) w us) (EL.tells O.answers.type O.answers.laws w _ is) is
+      told : (w : AnswerT O) {u : Val} → Is (answer_row O) w (u ∷ []) → Is (answer_row O) w (answer_val O w ∷ [])
+      told w is = subst (λ (us : List Val). Is (answer_row O) w us) (EL.tells O.answers.type O.answers.laws w _ is) is
 
       module _ (h₀ : StateT O) (l₀ l₁ l₂ l₃ l₄ l₅ l₆ l₇ l₈ l₉ : ℕ) (ms : Blocks g.made) where
         abbrev En : Env 𝓤 H
-        En = environment τ g.made l₂ l₆ ms (sum_ty, l₀) (state-ty O, l₁) (number, l₃) (state-ty O, l₄) (sum_ty, l₅) (answer-ty O, l₇) (ty_bool, l₈) (lentTy, l₉)
+        En = environment τ g.made l₂ l₆ ms (sum_ty, l₀) (state_ty O, l₁) (number, l₃) (state_ty O, l₄) (sum_ty, l₅) (answer_ty O, l₇) (ty_bool, l₈) (lent_ty, l₉)
 
         -- [kept; i; slots; the locals made; sum; answer; the test; the reference at 7; count; panel; the result; F at 11; and that each local dies, from 12 on]
         abbrev At : Iteration → List (Item 𝓤)
-        At t = ‵ (fat full_share (state-ty O) l₄ 0 (state-val O t.h)) ∷ ‵ (fat full_share number l₆ 0 (vint w32 t.i)) ∷ ‵ (fat full_share τ l₂ 0 v) ∷ ‵ (rooms g.made ms) ∷ ‵ (fat full_share sum_ty l₅ 0 (vint w64 t.s))
-            ∷ ‵ (froom (answer-ty O) l₇ 0) ∷ ‵ (froom ty_bool l₈ 0) ∷ ‵ (froom lentTy l₉ 0) ∷ ‵ (fat full_share number l₃ 0 (vint w32 n)) ∷ ‵ (fat full_share (state-ty O) l₁ 0 (state-val O h₀)) ∷ ‵ (froom sum_ty l₀ 0) ∷ raw F
-            ∷ ‵ (fdies sum_ty l₀) ∷ ‵ (fdies (state-ty O) l₁) ∷ ‵ (fdies τ l₂) ∷ ‵ (fdies number l₃) ∷ ‵ (fdies (state-ty O) l₄) ∷ ‵ (fdies sum_ty l₅) ∷ ‵ (fdies number l₆) ∷ ‵ (fdies (answer-ty O) l₇) ∷ ‵ (fdies ty_bool l₈) ∷ ‵ (fdies lentTy l₉) ∷ []
+        At t = ‵ (fat full_share (state_ty O) l₄ 0 (state_val O t.h)) ∷ ‵ (fat full_share number l₆ 0 (vint w32 t.i)) ∷ ‵ (fat full_share τ l₂ 0 v) ∷ ‵ (rooms g.made ms) ∷ ‵ (fat full_share sum_ty l₅ 0 (vint w64 t.s))
+            ∷ ‵ (froom (answer_ty O) l₇ 0) ∷ ‵ (froom ty_bool l₈ 0) ∷ ‵ (froom lent_ty l₉ 0) ∷ ‵ (fat full_share number l₃ 0 (vint w32 n)) ∷ ‵ (fat full_share (state_ty O) l₁ 0 (state_val O h₀)) ∷ ‵ (froom sum_ty l₀ 0) ∷ raw F
+            ∷ ‵ (fdies sum_ty l₀) ∷ ‵ (fdies (state_ty O) l₁) ∷ ‵ (fdies τ l₂) ∷ ‵ (fdies number l₃) ∷ ‵ (fdies (state_ty O) l₄) ∷ ‵ (fdies sum_ty l₅) ∷ ‵ (fdies number l₆) ∷ ‵ (fdies (answer_ty O) l₇) ∷ ‵ (fdies ty_bool l₈) ∷ ‵ (fdies lent_ty l₉) ∷ []
 
         abbrev Iterated : Iteration → Out → SProp 𝓤
         Iterated t = after_turn 𝓤 H (Below 𝓛 Nearer At t) (after_block 𝓤 H (after_seq 𝓤 H (Wp 𝓤 H 𝓣.C 𝓣.Λ En rest (at_return 𝓤 H En Q)) (at_return 𝓤 H En Q)))
 
         -- an iteration that makes its calls
-        takes : (t : Iteration) → ltb t.i n ≡ true → Sq 𝓛 (At t) (runs 𝓣.C 𝓣.Λ En (iteration-of #callee #sum g) (any_q (Iterated t)))
+        takes : (t : Iteration) → ltb t.i n ≡ true → Sq 𝓛 (At t) (runs 𝓣.C 𝓣.Λ En (iteration_of #callee #sum g) (any_q (Iterated t)))
         unfolding after_turn
         takes t test =
             assigns ! (bin ! (load ! (from ! (stop !)) (look ! 1 refl)) (load ! (from ! (stop !)) (look ! 8 refl)) tt) (from ! (stop !)) (init ! 6 refl (tt, tt)) $
@@ -183,16 +183,16 @@ module _ (O : Outcome) where
             move ! (2 ∷ 0 ∷ []) $ join ! $ move ! (0 ∷ 12 ∷ []) $ join ! $ use1 𝓛 (later (raw (𝓣.C #callee (vptr l₄ 0 ∷ vs t.i) (λ u. mean 𝓛 (Back ν γ u))))) (met ν l₄ γ t.h t.i less) $ await ! tt $ move ! (0 ∷ 2 ∷ 3 ∷ 4 ∷ []) $
             -- [the call; i; slots; the locals made; the lender's part at 4; sum; answer; the test; the reference at 8; …]
             calls_from ! (fm_of 𝓤 H 𝓛.laws 𝓣) (raw (𝓣.C #callee (vptr l₄ 0 ∷ vs t.i) (λ u. mean 𝓛 (Back ν γ u)))) (vptr l₄ 0 ∷ vs t.i) (λ u. mean 𝓛 (Back ν γ u)) (id⊢ 𝓤 _) (and_then ! (load ! (from ! (stop !)) (look ! 8 refl)) (gives.read t.i _ _ l₂ l₆ ms _ _ _ _ _ _ _ _)) (λ u.
-            use1 𝓛 (Back ν γ u) (id⊢ 𝓤 _) $ await ! tt $ pick ! (λ w. pick ! (λ h. split ! $ split ! $ move ! (1 ∷ []) $ peeks ! (answer-row O) (Is (answer-row O)) (shows 𝓛 (answer-row O)) w (u ∷ []) (λ is-u. drop ! $
+            use1 𝓛 (Back ν γ u) (id⊢ 𝓤 _) $ await ! tt $ pick ! (λ w. pick ! (λ h. split ! $ split ! $ move ! (1 ∷ []) $ peeks ! (answer_row O) (Is (answer_row O)) (shows 𝓛 (answer_row O)) w (u ∷ []) (λ is-u. drop ! $
             -- [the token; the last state's mark and F; i; slots; the locals made; the lender's part at 5; sum; answer at 7; …]
             land ! (from ! (stop !)) (init ! 7 refl ((EL.lawful O.answers.type O.answers.laws 𝓛 O.answers.few).typed w _ is-u).0) $
-            rewrite ! 7 (λ (x : Val). ‵ (fat full_share (answer-ty O) l₇ 0 x)) (ap only (EL.tells O.answers.type O.answers.laws w _ is-u)) refl $
+            rewrite ! 7 (λ (x : Val). ‵ (fat full_share (answer_ty O) l₇ 0 x)) (ap only (EL.tells O.answers.type O.answers.laws w _ is-u)) refl $
             -- the lifetime is ended, and the state comes back
-            lft_end ! tt $ move ! (1 ∷ []) $ split ! $ move ! (2 ∷ 6 ∷ 0 ∷ []) $ use3 𝓛 (later (‵ (fsep (fat full_share (state-ty O) l₄ 0 (state-val O h)) (R.own_val h (state-val O h ∷ []))))) (comes_home O.states.type O.states.laws O.states.plain 𝓛 (named 0) (ν ∷ []) l₄ γ h) $ await ! tt $ fsplit ! $
-            move ! (1 ∷ []) $ peeks ! R (Is R) (shows 𝓛 R) h (state-val O h ∷ []) (λ is-h. drop ! $
+            lft_end ! tt $ move ! (1 ∷ []) $ split ! $ move ! (2 ∷ 6 ∷ 0 ∷ []) $ use3 𝓛 (later (‵ (fsep (fat full_share (state_ty O) l₄ 0 (state_val O h)) (R.own_val h (state_val O h ∷ []))))) (comes_home O.states.type O.states.laws O.states.plain 𝓛 (named 0) (ν ∷ []) l₄ γ h) $ await ! tt $ fsplit ! $
+            move ! (1 ∷ []) $ peeks ! R (Is R) (shows 𝓛 R) h (state_val O h ∷ []) (λ is-h. drop ! $
             -- [kept; F; i at 2; slots; the locals made; sum; answer; …]: the sum and the answer are plain data, so what they own is had for nothing
-            nothing ! $ nothing ! $ owned ! (answer-row O) (Is (answer-row O)) (EL.makes O.answers.type O.answers.plain 𝓛) w _ (told w is-u) $ fjoin ! $ owned ! u64 (Is u64) (uint_Makes 𝓛 w64) t.s _ (refl, t.fits) $ fjoin ! $ nothing ! $ join ! $ join ! $
-            calls_from ! (fm_of 𝓤 H 𝓛.laws 𝓣) (Summing t.s w) (vint w64 t.s ∷ answer-val O w ∷ []) (λ x. mean 𝓛 (Summed (more t.s w) x)) (adds t.s w) (and_then ! (load ! (from ! (stop !)) (look ! 6 refl)) (and_then ! (load ! (from ! (stop !)) (look ! 7 refl)) (no_more !))) (λ x.
+            nothing ! $ nothing ! $ owned ! (answer_row O) (Is (answer_row O)) (EL.makes O.answers.type O.answers.plain 𝓛) w _ (told w is-u) $ fjoin ! $ owned ! u64 (Is u64) (uint_Makes 𝓛 w64) t.s _ (refl, t.fits) $ fjoin ! $ nothing ! $ join ! $ join ! $
+            calls_from ! (fm_of 𝓤 H 𝓛.laws 𝓣) (Summing t.s w) (vint w64 t.s ∷ answer_val O w ∷ []) (λ x. mean 𝓛 (Summed (more t.s w) x)) (adds t.s w) (and_then ! (load ! (from ! (stop !)) (look ! 6 refl)) (and_then ! (load ! (from ! (stop !)) (look ! 7 refl)) (no_more !))) (λ x.
             use1 𝓛 (Summed (more t.s w) x) (id⊢ 𝓤 _) $ await ! tt $ pick ! (λ s. split ! $ split ! $ drop ! $ move ! (1 ∷ []) $ drop ! $ peeks ! u64 (Is u64) (shows 𝓛 u64) s (x ∷ []) (λ is-s. drop ! $
             -- [kept; F; i at 2; slots; the locals made at 4; sum; answer; the test; the reference; count; …]
             land ! (from ! (stop !)) (store ! 5 refl ((uint_Lawful 𝓛 w64).typed s _ is-s).0) $ rewrite ! 5 (λ (y : Val). ‵ (fat full_share sum_ty l₅ 0 y)) (ap only (uint_Tells w64 s _ is-s)) refl $
@@ -204,7 +204,7 @@ module _ (O : Outcome) where
             less = ltb-true t.i n test
 
         -- the iteration that leaves the loop, and the rest of the body
-        leaves : (t : Iteration) → ltb t.i n ≡ false → Sq 𝓛 (At t) (runs 𝓣.C 𝓣.Λ En (iteration-of #callee #sum g) (any_q (Iterated t)))
+        leaves : (t : Iteration) → ltb t.i n ≡ false → Sq 𝓛 (At t) (runs 𝓣.C 𝓣.Λ En (iteration_of #callee #sum g) (any_q (Iterated t)))
         unfolding after_turn
         leaves t test =
             assigns ! (bin ! (load ! (from ! (stop !)) (look ! 1 refl)) (load ! (from ! (stop !)) (look ! 8 refl)) tt) (from ! (stop !)) (init ! 6 refl (tt, tt)) $
@@ -213,22 +213,22 @@ module _ (O : Outcome) where
             returns ! (look ! 10 refl) $ forget ! 0 refl $ forget ! 1 refl $ forget ! 2 refl $ forget ! 4 refl $ forget ! 6 refl $ forget ! 8 refl $ forget ! 9 refl $ forget ! 10 refl $
             move ! (10 ∷ 12 ∷ []) $ free1 ! $ move ! (9 ∷ 11 ∷ []) $ free1 ! $ move ! (2 ∷ 10 ∷ []) $ free1 ! $ move ! (7 ∷ 9 ∷ []) $ free1 ! $ move ! (0 ∷ 8 ∷ []) $ free1 ! $
             move ! (2 ∷ 7 ∷ []) $ free1 ! $ move ! (0 ∷ 6 ∷ []) $ free1 ! $ move ! (1 ∷ 5 ∷ []) $ free1 ! $ move ! (1 ∷ 4 ∷ []) $ free1 ! $ move ! (1 ∷ 3 ∷ []) $ free1 ! $
-            free-rooms ! g.made ms [] $ free0 ! $ by ! (ends t.s t.fits)
+            free_rooms ! g.made ms [] $ free0 ! $ by ! (ends t.s t.fits)
 
-        iteration : (t : Iteration) (y : Bool) → ltb t.i n ≡ y → Sq 𝓛 (At t) (runs 𝓣.C 𝓣.Λ En (iteration-of #callee #sum g) (any_q (Iterated t)))
+        iteration : (t : Iteration) (y : Bool) → ltb t.i n ≡ y → Sq 𝓛 (At t) (runs 𝓣.C 𝓣.Λ En (iteration_of #callee #sum g) (any_q (Iterated t)))
         iteration t true test = takes t test
         iteration t false test = leaves t test
 
-        looped : (t : Iteration) → Sq 𝓛 (At t) (runs 𝓣.C 𝓣.Λ En (seq (block (loop (iteration-of #callee #sum g))) rest) (at_ret En Q))
+        looped : (t : Iteration) → Sq 𝓛 (At t) (runs 𝓣.C 𝓣.Λ En (seq (block (loop (iteration_of #callee #sum g))) rest) (at_ret En Q))
         looped t = first ! $ blocks ! $ loops ! 𝓣 Nearer Nearer-wf At (λ t'. iteration t' (ltb t'.i n) refl) t
 
-      pub walk : (h : StateT O) → Is R h (state-val O h ∷ []) → Typed (τ ∷ []) (v ∷ []) → ent 𝓤 F (WpFn 𝓤 H 𝓣.C 𝓣.Λ (function #callee #sum τ g) (state-val O h ∷ v ∷ vint w32 n ∷ []) Q)
+      pub walk : (h : StateT O) → Is R h (state_val O h ∷ []) → Typed (τ ∷ []) (v ∷ []) → ent 𝓤 F (WpFn 𝓤 H 𝓣.C 𝓣.Λ (function #callee #sum τ g) (state_val O h ∷ v ∷ vint w32 n ∷ []) Q)
       walk h is ok =
-          qed 𝓛 (raw F ∷ []) ∵ enter ! 𝓣.C 𝓣.Λ (function #callee #sum τ g) (state-val O h ∷ v ∷ vint w32 n ∷ []) Q $
+          qed 𝓛 (raw F ∷ []) ∵ enter ! 𝓣.C 𝓣.Λ (function #callee #sum τ g) (state_val O h ∷ v ∷ vint w32 n ∷ []) Q $
           alloc1 ! (λ l₀. alloc1 ! (λ l₁. alloc1 ! (λ l₂. alloc1 ! (λ l₃. alloc1 ! (λ l₄. alloc1 ! (λ l₅. alloc1 ! (λ l₆. alloc1 ! (λ l₇. alloc1 ! (λ l₈. alloc1 ! (λ l₉. allocate ! g.made [] _ (λ ms. alloc0 ! $ params1 ! $
           -- [the locals made; _9; …; _8; …; _7; …; _6 at 7; …; _5; …; _4; …; _3 at 13; …; _2; …; _1; …; _0; …; F at 21]
-          pass1 ! (init ! 17 refl (state-typed O 𝓛 h is)) $ pass1 ! (init ! 15 refl ok.0) $ pass1 ! (init ! 13 refl (tt, record { fits = n-fits })) $ pass0 ! $
-          assigns ! (of_opd ! (load ! (from ! (stop !)) (look ! 17 refl))) (from ! (stop !)) (init ! 11 refl (state-typed O 𝓛 h is)) $
+          pass1 ! (init ! 17 refl (state_typed O 𝓛 h is)) $ pass1 ! (init ! 15 refl ok.0) $ pass1 ! (init ! 13 refl (tt, record { fits = n_fits })) $ pass0 ! $
+          assigns ! (of_opd ! (load ! (from ! (stop !)) (look ! 17 refl))) (from ! (stop !)) (init ! 11 refl (state_typed O 𝓛 h is)) $
           assigns ! (of_opd ! (lit ! tt)) (from ! (stop !)) (init ! 9 refl (sum_typed 0 (lit< tt))) $
           assigns ! (of_opd ! (lit ! tt)) (from ! (stop !)) (init ! 7 refl (tt, record { fits = lit< tt })) $
           keep ! (11 ∷ 7 ∷ 15 ∷ 0 ∷ 9 ∷ 5 ∷ 3 ∷ 1 ∷ 13 ∷ 17 ∷ 19 ∷ 21 ∷ 20 ∷ 18 ∷ 16 ∷ 14 ∷ 12 ∷ 10 ∷ 8 ∷ 6 ∷ 4 ∷ 2 ∷ []) $

@@ -30,7 +30,7 @@ use denote.Triple.Entry.{Args, on_entry}
 use denote.Triple.Spec.{Meets, triple_of}
 use denote.Triple.Table.{cited, entered}
 use denote.Triple.Walked.{Stay, Stays, stay_dropped, Goes, Goes-dropped, walk_of, ends_at, walked, walk_Meets}
-use Rattle.in_place.proofs.Outcome.{Outcome, StateT, state-row, answer-row, state-val, answer-val}
+use Rattle.in_place.proofs.Outcome.{Outcome, StateT, state_row, answer_row, state_val, answer_val}
 use Rattle.in_place.proofs.Params.{Param}
 use Rattle.lent_record.proofs.Loop.{Arguments, Gives, function, Lent, Back, walk}
 
@@ -49,17 +49,17 @@ safe {𝓤 = 𝓤} 𝓛 𝓜 𝓡 T env #callee routine is c met ghost asks = re
 
 -- the sum's function
 abbrev pub sum_ended : Outcome → Ended
-sum_ended O = record { signature = record { lifetimes = 0; outlives = []; params = plain (λ κs. u64) ∷ plain (λ κs. answer-row O) ∷ []; result = plain (λ κs. u64) }; kept = (yes, (yes, tt)) }
+sum_ended O = record { signature = record { lifetimes = 0; outlives = []; params = plain (λ κs. u64) ∷ plain (λ κs. answer_row O) ∷ []; result = plain (λ κs. u64) }; kept = (yes, (yes, tt)) }
 
 module _ (O : Outcome) (p : Param 1) (st : Stay p.slot yes) where
   abbrev pub ended : Ended
   ended = record {
-    signature = record { lifetimes = 1; outlives = []; params = plain (λ κs. state-row O) ∷ p.slot ∷ plain (λ κs. u32) ∷ []; result = plain (λ κs. u64) };
+    signature = record { lifetimes = 1; outlives = []; params = plain (λ κs. state_row O) ∷ p.slot ∷ plain (λ κs. u32) ∷ []; result = plain (λ κs. u64) };
     kept = (yes, (yes, (yes, tt)));
   }
 
   abbrev stayed : Stays ended.signature.params ended.kept
-  stayed = (stay_dropped (plain (λ κs. state-row O)) yes, (st, (stay_dropped (plain (λ κs. u32)) yes, tt)))
+  stayed = (stay_dropped (plain (λ κs. state_row O)) yes, (st, (stay_dropped (plain (λ κs. u32)) yes, tt)))
 
   abbrev Slots : Lfts 1 → Type 0
   Slots κs = (p.slot.row κs).Denot
@@ -81,14 +81,14 @@ module _ (O : Outcome) (p : Param 1) (st : Stay p.slot yes) where
     Calls run = (κs : Lfts 1) (qs : Shares 1) (x : Slots κs) (n : ℕ) → n < 2 ^ 32 → Is (p.slot.row κs) x (p.val κs x ∷ []) → (ν b : ℕ) (γ : GName) (h : StateT O) (i : ℕ) → i < n
         → ent 𝓤 (mean 𝓛 (Lent O 𝓛 (kept κs qs x).F ν b γ h)) (H.⇛ (run (vptr b 0 ∷ vs κs x i) (λ u. mean 𝓛 (Back O 𝓛 (kept κs qs x).F ν γ u))))
 
-    module _ (c : Clauses 𝓤 ended) (says : (κs : Lfts 1) (a : Args ended.signature κs) (γ : (c κs a).ghost) (r : ℕ) (e : AtExit ended κs) → ent 𝓤 (emp 𝓤) ((c κs a).ensures γ r e)) (last : (h : StateT O) → Last ((state-row O).exit yes) h)
+    module _ (c : Clauses 𝓤 ended) (says : (κs : Lfts 1) (a : Args ended.signature κs) (γ : (c κs a).ghost) (r : ℕ) (e : AtExit ended κs) → ent 𝓤 (emp 𝓤) ((c κs a).ensures γ r e)) (last : (h : StateT O) → Last ((state_row O).exit yes) h)
         (κs : Lfts 1) (qs : Shares 1) (bounds : AllOutlive 1 [] κs) (h : StateT O) (x : Slots κs) (n : ℕ) (γ : (c κs (h, (x, (n, tt)))).ghost) where
       abbrev bound : (walk_of 𝓛 ended stayed c).Ghost
-      bound = ((κs, qs, bounds, (h, (x, (n, tt))), (state-val O h ∷ [], (p.val κs x ∷ [], (vint w32 n ∷ [], tt)))), γ)
+      bound = ((κs, qs, bounds, (h, (x, (n, tt))), (state_val O h ∷ [], (p.val κs x ∷ [], (vint w32 n ∷ [], tt)))), γ)
 
       enters : ent 𝓤 ((walk_of 𝓛 ended stayed c).pre bound) (kept κs qs x).F
       enters =
-          qed 𝓛 ((raw (toks 𝓛 1 κs qs) ⊛ ‵ (owns (state-row O ∷ p.slot.row κs ∷ u32 ∷ []) (h, (x, (n, tt))) (state-val O h ∷ [], (p.val κs x ∷ [], (vint w32 n ∷ [], tt))))) ∷ raw ((c κs (h, (x, (n, tt)))).requires γ) ∷ []) ∵ split ! $
+          qed 𝓛 ((raw (toks 𝓛 1 κs qs) ⊛ ‵ (owns (state_row O ∷ p.slot.row κs ∷ u32 ∷ []) (h, (x, (n, tt))) (state_val O h ∷ [], (p.val κs x ∷ [], (vint w32 n ∷ [], tt))))) ∷ raw ((c κs (h, (x, (n, tt)))).requires γ) ∷ []) ∵ split ! $
           move ! (1 ∷ []) $ fsplit ! $ move ! (1 ∷ []) $ fsplit ! $ keep ! (3 ∷ 0 ∷ []) $ by ! (kept κs qs x).begins
 
       exits : (s : ℕ) → s < 2 ^ 64 → ent 𝓤 (kept κs qs x).F ((walk_of 𝓛 ended stayed c).post bound (vint w64 s))
@@ -100,17 +100,17 @@ module _ (O : Outcome) (p : Param 1) (st : Stay p.slot yes) where
 
     meets : (𝓣 : Tables 𝓤 H) (#callee #sum : Name) (g : Arguments) → Giving g → Calls (𝓣.C #callee) → Safe 𝓛 (sum_ended O) (𝓣.C #sum) → Goes 𝓛 1 p.slot yes st
         → (c : Clauses 𝓤 ended) → ((κs : Lfts 1) (a : Args ended.signature κs) (γ : (c κs a).ghost) (r : ℕ) (e : AtExit ended κs) → ent 𝓤 (emp 𝓤) ((c κs a).ensures γ r e))
-        → (last : (h : StateT O) → Last ((state-row O).exit yes) h) → ((h : StateT O) (l : Last ((state-row O).exit yes) h) → left ((state-row O).exit yes) h l ≡ ftrue)
+        → (last : (h : StateT O) → Last ((state_row O).exit yes) h) → ((h : StateT O) (l : Last ((state_row O).exit yes) h) → left ((state_row O).exit yes) h l ≡ ftrue)
         → Meets 𝓛 ended.signature (WpFn 𝓤 H 𝓣.C 𝓣.Λ (function O #callee #sum p.ty g)) (closing 𝓛 ended c)
     meets 𝓣 #callee #sum g giving calls sum goes c says last silent =
-        walk_Meets 𝓛 ended stayed (Goes-dropped 𝓛 1 (plain (λ κs. state-row O)) yes (λ κs h l. silent h l), (goes, (Goes-dropped 𝓛 1 (plain (λ κs. u32)) yes (λ κs x l. refl), tt))) c
+        walk_Meets 𝓛 ended stayed (Goes-dropped 𝓛 1 (plain (λ κs. state_row O)) yes (λ κs h l. silent h l), (goes, (Goes-dropped 𝓛 1 (plain (λ κs. u32)) yes (λ κs x l. refl), tt))) c
         (WpFn 𝓤 H 𝓣.C 𝓣.Λ (function O #callee #sum p.ty g)) (WpFn-mono 𝓤 H 𝓛.laws 𝓣 (function O #callee #sum p.ty g))
         (walked 𝓛 ended stayed c (WpFn 𝓤 H 𝓣.C 𝓣.Λ (function O #callee #sum p.ty g))
         (λ κs. (LL.vals O.states.type O.states.laws, ((λ x. p.val κs x ∷ []), (uint_vals w32, tt)))) (λ κs. (LL.tells O.states.type O.states.laws, (p.tells κs, (uint_Tells w32, tt))))
         (λ κs qs bounds a γ are. via 𝓤 (kept κs qs a.1.0).F (enters c says last κs qs bounds a.0 a.1.0 a.1.1.0 γ)
         (walk O 𝓛 (kept κs qs a.1.0).F p.ty (p.val κs a.1.0) a.1.1.0 are.1.1.0.1 (vs κs a.1.0) g (giving κs a.1.0 a.1.1.0 are.1.1.0.1 are.1.0) #callee #sum 𝓣
         (calls κs qs a.1.0 a.1.1.0 are.1.1.0.1 are.1.0) (λ s w r. (closing 𝓛 (sum_ended O) sum.clauses tt (s, (w, tt))).ensures (sum.ghost tt (s, (w, tt))) r)
-        (λ s w. via 𝓤 _ (mono_r 𝓤 (on_entry 𝓛 (sum_ended O).signature tt tt (s, (w, tt)) (vint w64 s ∷ [], (answer-val O w ∷ [], tt))) (sum.asks tt (s, (w, tt)))) (sum.met ((tt, tt, tt, (s, (w, tt)), (vint w64 s ∷ [], (answer-val O w ∷ [], tt))), sum.ghost tt (s, (w, tt)))))
+        (λ s w. via 𝓤 _ (mono_r 𝓤 (on_entry 𝓛 (sum_ended O).signature tt tt (s, (w, tt)) (vint w64 s ∷ [], (answer_val O w ∷ [], tt))) (sum.asks tt (s, (w, tt)))) (sum.met ((tt, tt, tt, (s, (w, tt)), (vint w64 s ∷ [], (answer_val O w ∷ [], tt))), sum.ghost tt (s, (w, tt)))))
         ((walk_of 𝓛 ended stayed c).post (bound c says last κs qs bounds a.0 a.1.0 a.1.1.0 γ)) (exits c says last κs qs bounds a.0 a.1.0 a.1.1.0 γ) a.0 are.0 (p.typed 𝓛 κs a.1.0 are.1.0))))
 
   -- the function's routine, which stands in an environment under its name, meets the contract where its code is the walk's
@@ -118,7 +118,7 @@ module _ (O : Outcome) (p : Param 1) (st : Stay p.slot yes) where
       (env : Env) (#self #callee #sum : Name) (g : Arguments) (code : Fn) → Closed 𝓤 𝓛.H (tables 𝓤 𝓛.H 𝓜 𝓡 env).C (tables 𝓤 𝓛.H 𝓜 𝓡 env).Λ #self code → code ≡ function O #callee #sum p.ty g
       → Giving 𝓛 kept vs g → Calls 𝓛 kept vs (𝓡.run (env #callee)) → Safe 𝓛 (sum_ended O) (𝓡.run (env #sum)) → Goes 𝓛 1 p.slot yes st
       → (c : Clauses 𝓤 ended) → ((κs : Lfts 1) (a : Args ended.signature κs) (γ : (c κs a).ghost) (r : ℕ) (e : AtExit ended κs) → ent 𝓤 (emp 𝓤) ((c κs a).ensures γ r e))
-      → (last : (h : StateT O) → Last ((state-row O).exit yes) h) → ((h : StateT O) (l : Last ((state-row O).exit yes) h) → left ((state-row O).exit yes) h l ≡ ftrue)
+      → (last : (h : StateT O) → Last ((state_row O).exit yes) h) → ((h : StateT O) (l : Last ((state_row O).exit yes) h) → left ((state_row O).exit yes) h l ≡ ftrue)
       → Meets 𝓛 ended.signature (𝓡.run (env #self)) (closing 𝓛 ended c)
   unfolding tables_of
   iterations {𝓤 = 𝓤} 𝓛 𝓜 𝓡 kept vs env #self #callee #sum g code closed is giving calls sum goes c says last silent =

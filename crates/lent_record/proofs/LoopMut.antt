@@ -34,7 +34,7 @@ use denote.Triple.Statement.{FmF}
 use denote.Triple.Table.{run_framed}
 use denote.Triple.Walked.{Stay, stay_slice, Goes, Goes-slice}
 use Rattle.in_place.proofs.Locals.{at_entry, in_tail}
-use Rattle.in_place.proofs.Outcome.{Outcome, StateT, AnswerT, state-row, answer-row}
+use Rattle.in_place.proofs.Outcome.{Outcome, StateT, AnswerT, state_row, answer_row}
 use Rattle.in_place.proofs.Params.{Param, slice_mut}
 use Rattle.lent_record.proofs.Again.{LentAgain, lends_again, comes_back}
 use Rattle.lent_record.proofs.Loop.{Arguments, function, Lent, Back}
@@ -49,7 +49,7 @@ lent_stay = stay_slice (0 ∷ []) tt (plain (λ κs. u64))
 -- the call in place
 abbrev pub lent_callee : Outcome → Ended
 lent_callee O = record {
-  signature = record { lifetimes = 2; outlives = []; params = RefMutOf (0 ∷ []) tt (plain (λ κs. state-row O)) (λ κs. tt) ∷ (slice_mut w64 1 tt).slot ∷ []; result = plain (λ κs. answer-row O) };
+  signature = record { lifetimes = 2; outlives = []; params = RefMutOf (0 ∷ []) tt (plain (λ κs. state_row O)) (λ κs. tt) ∷ (slice_mut w64 1 tt).slot ∷ []; result = plain (λ κs. answer_row O) };
   kept = (yes, (yes, tt));
 }
 
@@ -59,18 +59,18 @@ module _ {M : Type 1} {𝓤 : Ura M} (𝓛 : Logic 𝓤) where
 
   module _ (O : Outcome) where
     abbrev R : RattleType
-    R = state-row O
+    R = state_row O
 
     module _ (κs : Lfts 1) (qs : Shares 1) (x : MutBor (List ℕ)) where
       -- the slots hold zs, as many as at the start
       abbrev Holding : List ℕ → Item 𝓤
       Holding zs = given (length zs ≡ length x.now) (raw (toks 𝓛 1 κs qs) ⊛ ‵ ((lent.slot.row κs).own_val (at_last x zs) (lent.val κs x ∷ [])))
 
-      pub lent-begins : ent 𝓤 (sep 𝓤 (toks 𝓛 1 κs qs) (sem 𝓛 ((lent.slot.row κs).own_val x (lent.val κs x ∷ [])))) (mean 𝓛 (some Holding))
-      lent-begins = qed 𝓛 (raw (toks 𝓛 1 κs qs) ∷ ‵ ((lent.slot.row κs).own_val x (lent.val κs x ∷ [])) ∷ []) ∵ show ! (λ (zs : List ℕ). mean 𝓛 (Holding zs)) x.now $ check ! refl $ done !
+      pub lent_begins : ent 𝓤 (sep 𝓤 (toks 𝓛 1 κs qs) (sem 𝓛 ((lent.slot.row κs).own_val x (lent.val κs x ∷ [])))) (mean 𝓛 (some Holding))
+      lent_begins = qed 𝓛 (raw (toks 𝓛 1 κs qs) ∷ ‵ ((lent.slot.row κs).own_val x (lent.val κs x ∷ [])) ∷ []) ∵ show ! (λ (zs : List ℕ). mean 𝓛 (Holding zs)) x.now $ check ! refl $ done !
 
-      abbrev pub lent-kept : Kept O lent lent_stay 𝓛 κs qs x
-      lent-kept = record { F = mean 𝓛 (some Holding); begins = lent-begins; ends = id⊢ 𝓤 _ }
+      abbrev pub lent_kept : Kept O lent lent_stay 𝓛 κs qs x
+      lent_kept = record { F = mean 𝓛 (some Holding); begins = lent_begins; ends = id⊢ 𝓤 _ }
 
     module _ (run : Fun 𝓤) (fm : FmF 𝓤 run) (safe : Safe 𝓛 (lent_callee O) run) where
       module _ (κs : Lfts 1) (qs : Shares 1) (x : MutBor (List ℕ)) (ν b : ℕ) (γ : GName) (h : StateT O) (zs : List ℕ) (e : length zs ≡ length x.now) (μ : ℕ) (δ : GName) where
@@ -81,7 +81,7 @@ module _ {M : Type 1} {𝓤 : Ura M} (𝓛 : Logic 𝓤) where
         a = (record { ref_ptr = (b, 0); ghost_name = γ; now = h }, (record { ref_ptr = x.ptr; ghost_name = δ; now = zs }, tt))
 
         abbrev F : SProp 𝓤
-        F = (lent-kept κs qs x).F
+        F = (lent_kept κs qs x).F
 
         abbrev Lender : Fml
         Lender = LentAgain u64 κs.0 (μ ∷ []) qs.0 x.name x.ptr.0 x.ptr.1 δ zs
@@ -91,7 +91,7 @@ module _ {M : Type 1} {𝓤 : Ura M} (𝓛 : Logic 𝓤) where
         Asked = ((‵ (flft (ν ∷ []) full_share) ⊛ (‵ (flft (μ ∷ []) full_share) ⊛ ‵ ftrue)) ⊛ ‵ (fsep ((MutRef (named 0) (ν ∷ []) R).own_val a.0 (vptr b 0 ∷ [])) (fsep ((MutSlice (named 1) (μ ∷ []) u64).own_val a.1.0 (slice_val x.ptr (length zs) ∷ [])) ftrue))) ⊛ raw ((safe.clauses κs' a).requires (safe.ghost κs' a))
 
         abbrev Answered : Val → Item 𝓤
-        Answered u = later (some (λ (w : AnswerT O). ((‵ (flft (ν ∷ []) full_share) ⊛ (‵ (flft (μ ∷ []) full_share) ⊛ ‵ ftrue)) ⊛ ‵ ((answer-row O).own_val w (u ∷ [])))
+        Answered u = later (some (λ (w : AnswerT O). ((‵ (flft (ν ∷ []) full_share) ⊛ (‵ (flft (μ ∷ []) full_share) ⊛ ‵ ftrue)) ⊛ ‵ ((answer_row O).own_val w (u ∷ [])))
             ⊛ some (λ (z : Lasts (lent_callee O) κs' a). ‵ (lasts (lent_callee O) κs' a z) ⊛ raw ((safe.clauses κs' a).ensures (safe.ghost κs' a) w (at_exit (lent_callee O) κs' a z)))))
 
         answers : Room u64 (length zs) → (u : Val) → ent 𝓤 (sep 𝓤 (mean 𝓛 (Answered u)) (sem 𝓛 Lender)) (mean 𝓛 (Back O 𝓛 F ν γ u))
@@ -102,8 +102,8 @@ module _ {M : Type 1} {𝓤 : Ura M} (𝓛 : Logic 𝓤) where
             use3 𝓛 (later (‵ ((MutSlice (named 0) κs.0 u64).own_val (at_last x z.1.0) (slice_val x.ptr (length zs) ∷ [])) ⊛ ‵ (flft κs.0 qs.0))) (comes_back u64 κs.0 (μ ∷ []) qs.0 x.name x.ptr.0 x.ptr.1 𝓛 (named 0) (named 1) zs δ z.1.0 room as_many) $ await ! tt $ split ! $
             rewrite ! 0 (λ (m : ℕ). ‵ ((MutSlice (named 0) κs.0 u64).own_val (at_last x z.1.0) (slice_val x.ptr m ∷ []))) e refl $
             -- [the slots; their token; nothing; nothing; the last state's mark at 4; what is ensured; the token of ν; the answer]
-            at_once ! $ show ! (λ (w' : AnswerT O). mean 𝓛 (some (λ (h' : StateT O). (‵ (flft (ν ∷ []) full_share) ⊛ ‵ ((answer-row O).own_val w' (u ∷ []))) ⊛ (‵ (fres γ (R.coded.code h')) ⊛ raw F)))) w $
-            show ! (λ (h' : StateT O). mean 𝓛 ((‵ (flft (ν ∷ []) full_share) ⊛ ‵ ((answer-row O).own_val w (u ∷ []))) ⊛ (‵ (fres γ (R.coded.code h')) ⊛ raw F))) z.0 $
+            at_once ! $ show ! (λ (w' : AnswerT O). mean 𝓛 (some (λ (h' : StateT O). (‵ (flft (ν ∷ []) full_share) ⊛ ‵ ((answer_row O).own_val w' (u ∷ []))) ⊛ (‵ (fres γ (R.coded.code h')) ⊛ raw F)))) w $
+            show ! (λ (h' : StateT O). mean 𝓛 ((‵ (flft (ν ∷ []) full_share) ⊛ ‵ ((answer_row O).own_val w (u ∷ []))) ⊛ (‵ (fres γ (R.coded.code h')) ⊛ raw F))) z.0 $
             move ! (6 ∷ 7 ∷ []) $ join ! $ frame ! $ move ! (4 ∷ []) $ frame ! $ show ! (λ (ys : List ℕ). mean 𝓛 (Holding κs qs x ys)) z.1.0 $ check ! (as_many ∙ e) $ keep ! (1 ∷ 2 ∷ 0 ∷ []) $ join ! $ frame ! $ done !)))
 
         calls : Room u64 (length zs) → ent 𝓤 (sep 𝓤 (mean 𝓛 Asked) (sem 𝓛 Lender)) (run (vptr b 0 ∷ lent.val κs x ∷ []) (λ u. mean 𝓛 (Back O 𝓛 F ν γ u)))
@@ -112,9 +112,9 @@ module _ {M : Type 1} {𝓤 : Ura M} (𝓛 : Logic 𝓤) where
             (safe.met ((κs', (full_share, (full_share, tt)), tt, a, (vptr b 0 ∷ [], (slice_val x.ptr (length zs) ∷ [], tt))), safe.ghost κs' a))))
             (fm (vptr b 0 ∷ lent.val κs x ∷ []) (λ u. mean 𝓛 (Answered u)) (λ u. mean 𝓛 (Back O 𝓛 F ν γ u)) (sem 𝓛 Lender) (answers room))
 
-      pub lent-calls : Calls O lent lent_stay 𝓛 lent-kept (λ κs x i. lent.val κs x ∷ []) run
-      lent-calls κs qs x n fits is ν b γ h i less =
-          qed 𝓛 (Lent O 𝓛 (lent-kept κs qs x).F ν b γ h ∷ []) ∵ updating ! $ split ! $ split ! $ move ! (2 ∷ []) $ use1 𝓛 (some (Holding κs qs x)) (id⊢ 𝓤 _) $ pick ! (λ zs. learn ! (λ e. split ! $
+      pub lent_calls : Calls O lent lent_stay 𝓛 lent_kept (λ κs x i. lent.val κs x ∷ []) run
+      lent_calls κs qs x n fits is ν b γ h i less =
+          qed 𝓛 (Lent O 𝓛 (lent_kept κs qs x).F ν b γ h ∷ []) ∵ updating ! $ split ! $ split ! $ move ! (2 ∷ []) $ use1 𝓛 (some (Holding κs qs x)) (id⊢ 𝓤 _) $ pick ! (λ zs. learn ! (λ e. split ! $
           use1 𝓛 (‵ (flft κs.0 qs.0) ⊛ ‵ ftrue) (id⊢ 𝓤 _) $ split ! $ rewrite ! 2 (λ (m : ℕ). ‵ ((MutSlice (named 0) κs.0 u64).own_val (at_last x zs) (slice_val x.ptr m ∷ []))) (sym e) refl $
           -- [the slots' token; nothing; the slots at 2; the token of ν; what the reference owns]: the slots are lent again for a lifetime μ of the call
           lft_new ! tt (λ μ. move ! (3 ∷ 1 ∷ []) $ use2 𝓛 (later (some (λ (δ : GName). ‵ ((MutSlice (named 1) (μ ∷ []) u64).own_val (record { ref_ptr = x.ptr; ghost_name = δ; now = zs }) (slice_val x.ptr (length zs) ∷ [])) ⊛ ‵ (LentAgain u64 κs.0 (μ ∷ []) qs.0 x.name x.ptr.0 x.ptr.1 δ zs))))
@@ -137,7 +137,7 @@ relending = record {
 }
 
 module _ {M : Type 1} {𝓤 : Ura M} (𝓛 : Logic 𝓤) (O : Outcome) where
-  relends : Giving O lent lent_stay 𝓛 (lent-kept 𝓛 O) (λ κs x i. lent.val κs x ∷ []) relending
+  relends : Giving O lent lent_stay 𝓛 (lent_kept 𝓛 O) (λ κs x i. lent.val κs x ∷ []) relending
   relends κs x n fits is = record {
     us = λ i. vptr x.ref_ptr.0 x.ref_ptr.1 ∷ slice_val x.ref_ptr (length x.now) ∷ [];
     typed = λ i less. ((tt, tt), ((tt, (lent.typed 𝓛 κs x is).0.1), tt));
@@ -154,8 +154,8 @@ module _ {M : Type 1} {𝓤 : Ura M} (𝓛 : Logic 𝓤) (O : Outcome) where
 pub lent_iterations : (O : Outcome) {M : Type 1} {𝓤 : Ura M} (𝓛 : Logic 𝓤) (𝓜 : Model 𝓤 𝓛.H) (𝓡 : Running 𝓤 𝓛.H 𝓜) (env : Env) (#self #callee #sum : Name) (code : Fn) → Closed 𝓤 𝓛.H (tables 𝓤 𝓛.H 𝓜 𝓡 env).C (tables 𝓤 𝓛.H 𝓜 𝓡 env).Λ #self code
     → code ≡ function O #callee #sum lent.ty relending → Safe 𝓛 (lent_callee O) (𝓡.run (env #callee)) → Safe 𝓛 (sum_ended O) (𝓡.run (env #sum))
     → (c : Clauses 𝓤 (ended O lent lent_stay)) → ((κs : Lfts 1) (a : Args (ended O lent lent_stay).signature κs) (γ : (c κs a).ghost) (r : ℕ) (e : AtExit (ended O lent lent_stay) κs) → ent 𝓤 (emp 𝓤) ((c κs a).ensures γ r e))
-    → (last : (h : StateT O) → Last ((state-row O).exit yes) h) → ((h : StateT O) (l : Last ((state-row O).exit yes) h) → left ((state-row O).exit yes) h l ≡ ftrue)
+    → (last : (h : StateT O) → Last ((state_row O).exit yes) h) → ((h : StateT O) (l : Last ((state_row O).exit yes) h) → left ((state_row O).exit yes) h l ≡ ftrue)
     → Meets 𝓛 (ended O lent lent_stay).signature (𝓡.run (env #self)) (closing 𝓛 (ended O lent lent_stay) c)
 lent_iterations O {𝓤 = 𝓤} 𝓛 𝓜 𝓡 env #self #callee #sum code closed is callee sum c says last silent =
-    iterations O lent lent_stay 𝓛 𝓜 𝓡 (lent-kept 𝓛 O) (λ κs x i. lent.val κs x ∷ []) env #self #callee #sum relending code closed is (relends 𝓛 O)
-    (lent-calls 𝓛 O (𝓡.run (env #callee)) (run_framed 𝓤 𝓛.H 𝓜 𝓡 (env #callee)) callee) sum (lent_goes 𝓛) c says last silent
+    iterations O lent lent_stay 𝓛 𝓜 𝓡 (lent_kept 𝓛 O) (λ κs x i. lent.val κs x ∷ []) env #self #callee #sum relending code closed is (relends 𝓛 O)
+    (lent_calls 𝓛 O (𝓡.run (env #callee)) (run_framed 𝓤 𝓛.H 𝓜 𝓡 (env #callee)) callee) sum (lent_goes 𝓛) c says last silent

@@ -168,18 +168,18 @@ digits_no_letter letter (byte ∷ bytes) count value = go (digit byte) (ltb coun
 
 -- a field is a letter, no digit, where its bytes are that one
 module _ (letter : ℕ) (no_digit : digit letter ≡ false) where
-  pub other-digit : (byte : ℕ) → digit byte ≡ true → eqb byte letter ≡ false
-  other-digit byte e = ne_eqb byte letter λ same. true≢false (sym e ∙ ap digit same ∙ no_digit)
+  pub other_digit : (byte : ℕ) → digit byte ≡ true → eqb byte letter ≡ false
+  other_digit byte e = ne_eqb byte letter λ same. true≢false (sym e ∙ ap digit same ∙ no_digit)
 
-  pub reads-letter : (bytes : List ℕ) → is_letter_field letter (field_from Empty bytes) ≡ is_letter letter bytes
+  pub reads_letter : (bytes : List ℕ) → is_letter_field letter (field_from Empty bytes) ≡ is_letter letter bytes
   unfolding field_from field_more first_byte is_letter_field is_letter
-  reads-letter [] = refl
-  reads-letter (byte ∷ []) = go (digit byte) refl
+  reads_letter [] = refl
+  reads_letter (byte ∷ []) = go (digit byte) refl
     where
       go : (d : Bool) → digit byte ≡ d → is_letter_field letter (cond d (digits_more 0 0 byte) (Letter byte)) ≡ eqb byte letter
-      go true e = digits_no_letter letter (byte ∷ []) 0 0 ∙ sym (other-digit byte e)
+      go true e = digits_no_letter letter (byte ∷ []) 0 0 ∙ sym (other_digit byte e)
       go false e = refl
-  reads-letter (byte ∷ next ∷ bytes) = go (digit byte)
+  reads_letter (byte ∷ next ∷ bytes) = go (digit byte)
     where
       go : (d : Bool) → is_letter_field letter (field_from (field_more (cond d (digits_more 0 0 byte) (Letter byte)) next) bytes) ≡ false
       go true = digits_no_letter letter (byte ∷ next ∷ bytes) 0 0

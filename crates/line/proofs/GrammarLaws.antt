@@ -14,7 +14,7 @@ use Rattle.line.specs.declared.state.Fields.TheVariants.{TooMany}
 use Rattle.line.specs.declared.state.Line.{Line}
 use Rattle.line.specs.Grammar.{before, fields, digit, sizes_of_fields, command_of_fields, read_sizes, read_command}
 use Rattle.line.specs.LineState.{field_from, line_begin, with_ended, next_field, same_field, line_more, line_from, line_after, point_command, put_command, command_with, command_of, sizes_with, sizes_of}
-use Rattle.line.proofs.FieldLaws.{reads_number, reads-letter}
+use Rattle.line.proofs.FieldLaws.{reads_number, reads_letter}
 
 -- the line whose last field has all these bytes more
 last_from : Line → List ℕ → Line
@@ -76,8 +76,8 @@ command_joined : (l : List (List ℕ)) → command_of (joined line_begin l) ≡ 
 unfolding joined behind last_from next_field with_ended line_begin command_of command_with point_command put_command command_of_fields digit within both
 command_joined [] = refl
 command_joined (letter ∷ []) = refl
-command_joined (letter ∷ point ∷ []) = rw (reads-letter 76 refl letter, reads-letter 82 refl letter, reads_number point)
-command_joined (letter ∷ point ∷ value ∷ []) = rw (reads-letter 80 refl letter, reads_number point, reads_number value)
+command_joined (letter ∷ point ∷ []) = rw (reads_letter 76 refl letter, reads_letter 82 refl letter, reads_number point)
+command_joined (letter ∷ point ∷ value ∷ []) = rw (reads_letter 80 refl letter, reads_number point, reads_number value)
 command_joined (letter ∷ point ∷ value ∷ next ∷ later) = rw (too_many _ later)
 
 sizes_joined : (l : List (List ℕ)) → sizes_of (joined line_begin l) ≡ sizes_of_fields l

@@ -20,7 +20,7 @@ use Rattle.line.specs.declared.state.Line.{Line}
 use Rattle.line.specs.Grammar.{digit}
 use Rattle.line.specs.LineState.{field_more, field_from, next_field, same_field, line_begin, line_more, line_from, line_after}
 use Rattle.line.specs.LineParts.{part_of, no_line_end, leading_digits, run_of}
-use Rattle.line.proofs.FieldLaws.{other-digit}
+use Rattle.line.proofs.FieldLaws.{other_digit}
 use Rattle.line.proofs.RunLaws.{slice_none}
 
 -- a place past the end counts as the end
@@ -42,17 +42,17 @@ module _ (line : Line) (l : List ℕ) (i to : ℕ) where
   part_none h = rw (slice_none l i to h)
 
   module _ (more : i < to) (inside : to ≤ length l) where
-    pub part-ended : get_or l i 0 ≡ 10 → part_of line i (slice i to l) ≡ record { line = line; whole = true; next = i + 1 }
+    pub part_ended : get_or l i 0 ≡ 10 → part_of line i (slice i to l) ≡ record { line = line; whole = true; next = i + 1 }
     unfolding part_of
-    part-ended e = rw (slice-cons i to l 0 more inside, e)
+    part_ended e = rw (slice-cons i to l 0 more inside, e)
 
-    pub part-more : eqb (get_or l i 0) 10 ≡ false → part_of (line_more line (get_or l i 0)) (i + 1) (slice (i + 1) to l) ≡ part_of line i (slice i to l)
+    pub part_more : eqb (get_or l i 0) 10 ≡ false → part_of (line_more line (get_or l i 0)) (i + 1) (slice (i + 1) to l) ≡ part_of line i (slice i to l)
     unfolding part_of
-    part-more e = rw (slice-cons i to l 0 more inside, e, add-one i)
+    part_more e = rw (slice-cons i to l 0 more inside, e, add-one i)
 
 part_digit : (line : Line) (place byte : ℕ) (bytes : List ℕ) → digit byte ≡ true → part_of line place (byte ∷ bytes) ≡ part_of (same_field line byte) (place + 1) bytes
 unfolding part_of line_more digit within both
-part_digit line place byte bytes e = rw (other-digit 10 refl byte e, other-digit 32 refl byte e)
+part_digit line place byte bytes e = rw (other_digit 10 refl byte e, other_digit 32 refl byte e)
 
 -- reading a run at once is the same as giving each of its bytes to the line
 part_run : (room place : ℕ) (ended : Fields) (field : Field) (bytes : List ℕ) → part_of (record { ended = ended; last = field_from field (leading_digits room bytes) }) (place + length (leading_digits room bytes)) (drop (length (leading_digits room bytes)) bytes) ≡ part_of (record { ended = ended; last = field }) place bytes
@@ -91,7 +91,7 @@ pub part_field : (line : Line) (l : List ℕ) (i to : ℕ) (given : Line) (run :
 part_field line l i to given run more inside space e r =
     let no_end : eqb (get_or l i 0) 10 ≡ false = rw space in
     run_joins given.ended l (i + 1) to run r
-    ∙ rw (space_begins line given (get_or l i 0) space e) (part-more line l i to more inside no_end)
+    ∙ rw (space_begins line given (get_or l i 0) space e) (part_more line l i to more inside no_end)
 
 pub run_forward : (from : ℕ) (bytes : List ℕ) (run : Run) → run ≡ run_of from bytes → from ≤ run.next
 unfolding run_of

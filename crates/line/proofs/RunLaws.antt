@@ -85,14 +85,14 @@ pub record RunRead (l : List ℕ) (from to value i : ℕ) : Type 0 where
   pub says : decimal value (left_at l from to i) ≡ decimal 0 (leading_digits 10 (slice from to l))
 
 module _ (l : List ℕ) (from to : ℕ) where
-  pub run-begun : RunRead l from to 0 from
+  pub run_begun : RunRead l from to 0 from
   unfolding left_at
-  run-begun =
+  run_begun =
       let ten : from + 10 - from ≡ 10 = omega arith in
       record { count = rw ten; says = rw ten }
 
-  pub run-few : {value i : ℕ} → RunRead l from to value i → i ≤ from + 10
-  run-few read = omega (arith, read.count, leading_few 10 (slice from to l))
+  pub run_few : {value i : ℕ} → RunRead l from to value i → i ≤ from + 10
+  run_few read = omega (arith, read.count, leading_few 10 (slice from to l))
 
   pub run_small : {value i : ℕ} → RunRead l from to value i → value ≤ 9999999999
   run_small {value} {i} read = omega (arith, read.says, grows value (left_at l from to i), leading_small (slice from to l))
@@ -114,9 +114,9 @@ module _ (l : List ℕ) (from to : ℕ) where
     pub left_other : digit (get_or l i 0) ≡ false → left_at l from to i ≡ []
     left_other e = rw e at left_step
 
-  pub left-stopped : (i : ℕ) → from ≤ to → from + min (to - from) 10 ≤ i → left_at l from to i ≡ []
+  pub left_stopped : (i : ℕ) → from ≤ to → from + min (to - from) 10 ≤ i → left_at l from to i ≡ []
   unfolding left_at leading_digits
-  left-stopped i h stopped = go (leb (from + 10) i) refl
+  left_stopped i h stopped = go (leb (from + 10) i) refl
     where
       go : (b : Bool) → leb (from + 10) i ≡ b → leading_digits (from + 10 - i) (slice i to l) ≡ []
       go true e =
@@ -125,9 +125,9 @@ module _ (l : List ℕ) (from to : ℕ) where
       go false e =
           rw (slice_none l i to (omega (arith, leb-false (from + 10) i e))) (leading_none (from + 10 - i))
 
-  pub run-ended : (field : Field) {value i : ℕ} → from ≤ i → left_at l from to i ≡ [] → RunRead l from to value i → field ≡ digits_field (i - from) value → record { field = field; next = i } ≡ run_of from (slice from to l)
+  pub run_ended : (field : Field) {value i : ℕ} → from ≤ i → left_at l from to i ≡ [] → RunRead l from to value i → field ≡ digits_field (i - from) value → record { field = field; next = i } ≡ run_of from (slice from to l)
   unfolding run_of decimal
-  run-ended field {value} {i} h none read e =
+  run_ended field {value} {i} h none read e =
       let run = leading_digits 10 (slice from to l) in
       let counted : i ≡ from + length run = omega (arith, read.count, ap length none) in
       let many : i - from ≡ length run = omega arith in

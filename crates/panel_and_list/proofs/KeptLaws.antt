@@ -22,7 +22,7 @@ use Rattle.plain_rows.specs.declared.Operation.{Operation as OperationFed}
 use Rattle.plain_rows.specs.declared.Operation.TheVariants.{Nothing}
 use Rattle.plain_rows.specs.Rows.{rows_of}
 use Rattle.plain_rows.specs.Fed.{operation_of, Feeding, answered, fed_rows}
-use Rattle.plain_rows.proofs.RoomLaws.{fed-by-panel}
+use Rattle.plain_rows.proofs.RoomLaws.{fed_by_panel}
 use Rattle.effects.specs.Memory.{stores_slot}
 use Rattle.writer.specs.Step.{writer_access}
 use Rattle.frame.specs.declared.Fields.{Fields}
@@ -54,11 +54,11 @@ result_serves_none (WalkedLast word) = refl
 
 -- a turn stores or ends only as a step of the writer
 module _ (panel : Record) (answer : Answer) where
-  stores-served : (parties : List ℕ) → both (serves_writer parties) (both (not (is_refused answer)) (stores_slot (writer_access panel panel.writer.work))) ≡ stores_now panel answer (served_role parties)
+  stores_served : (parties : List ℕ) → both (serves_writer parties) (both (not (is_refused answer)) (stores_slot (writer_access panel panel.writer.work))) ≡ stores_now panel answer (served_role parties)
   unfolding stores_now both
-  stores-served [] = refl
-  stores-served (zero ∷ rest) = refl
-  stores-served (suc reader ∷ rest) = rw (ne_eqb (suc reader) 0 (omega arith))
+  stores_served [] = refl
+  stores_served (zero ∷ rest) = refl
+  stores_served (suc reader ∷ rest) = rw (ne_eqb (suc reader) 0 (omega arith))
 
 ends_served : (answer : Answer) (parties : List ℕ) → both (serves_writer parties) (has_ended answer) ≡ ends_now answer (served_role parties)
 unfolding ends_now both
@@ -68,30 +68,30 @@ ends_served answer (suc reader ∷ rest) = rw (ne_eqb (suc reader) 0 (omega arit
 
 -- and so does any call
 module _ (panel : Record) (answer : Answer) (frame : List ℕ) where
-  pub stores-by-step : (call : Call) → both (is_writer_step call answer) (both (not (is_refused answer)) (stores_slot (writer_access panel panel.writer.work))) ≡ stores_now panel answer (role_of call frame answer)
+  pub stores_by_step : (call : Call) → both (is_writer_step call answer) (both (not (is_refused answer)) (stores_slot (writer_access panel panel.writer.work))) ≡ stores_now panel answer (role_of call frame answer)
   unfolding stores_now role_of both
-  stores-by-step (StartLookup reader point) = refl
-  stores-by-step (StartWalk reader) = refl
-  stores-by-step (StepReader reader) = refl
-  stores-by-step (StartPut point value) = refl
-  stores-by-step (StartChange point keep flip) = refl
-  stores-by-step (StartRemoval point) = refl
-  stores-by-step StartCommand = refl
-  stores-by-step StepWriter = refl
-  stores-by-step Turn = stores-served panel answer (served_by answer)
+  stores_by_step (StartLookup reader point) = refl
+  stores_by_step (StartWalk reader) = refl
+  stores_by_step (StepReader reader) = refl
+  stores_by_step (StartPut point value) = refl
+  stores_by_step (StartChange point keep flip) = refl
+  stores_by_step (StartRemoval point) = refl
+  stores_by_step StartCommand = refl
+  stores_by_step StepWriter = refl
+  stores_by_step Turn = stores_served panel answer (served_by answer)
 
 module _ (answer : Answer) (frame : List ℕ) where
-  pub ends-by-step : (call : Call) → both (is_writer_step call answer) (has_ended answer) ≡ ends_now answer (role_of call frame answer)
+  pub ends_by_step : (call : Call) → both (is_writer_step call answer) (has_ended answer) ≡ ends_now answer (role_of call frame answer)
   unfolding ends_now role_of both
-  ends-by-step (StartLookup reader point) = refl
-  ends-by-step (StartWalk reader) = refl
-  ends-by-step (StepReader reader) = refl
-  ends-by-step (StartPut point value) = refl
-  ends-by-step (StartChange point keep flip) = refl
-  ends-by-step (StartRemoval point) = refl
-  ends-by-step StartCommand = refl
-  ends-by-step StepWriter = refl
-  ends-by-step Turn = ends_served answer (served_by answer)
+  ends_by_step (StartLookup reader point) = refl
+  ends_by_step (StartWalk reader) = refl
+  ends_by_step (StepReader reader) = refl
+  ends_by_step (StartPut point value) = refl
+  ends_by_step (StartChange point keep flip) = refl
+  ends_by_step (StartRemoval point) = refl
+  ends_by_step StartCommand = refl
+  ends_by_step StepWriter = refl
+  ends_by_step Turn = ends_served answer (served_by answer)
 
 twice_not : (b : Bool) → not (not b) ≡ b
 twice_not true = refl
@@ -136,9 +136,9 @@ ended_not_refused (refused n) e = absurd (false≢true e)
 
 -- the notes after a start and after a step of the writer, by the code's functions
 module _ (notes : Notes) (feeds : Bool) (answer : Answer) (after : Notes) where
-  pub begun-noted : (operation : OperationFed) (work : Writing) → after ≡ notes_begun notes (is_started answer) operation → (is_started answer ≡ true → operation_of operation ≡ work.operation) → NotesAfter notes feeds answer (writer_start work) after
+  pub begun_noted : (operation : OperationFed) (work : Writing) → after ≡ notes_begun notes (is_started answer) operation → (is_started answer ≡ true → operation_of operation ≡ work.operation) → NotesAfter notes feeds answer (writer_start work) after
   unfolding notes_begun writing_after fed_after
-  begun-noted operation work e given = record { asked = (go (is_started answer) e given).0; fed = (go (is_started answer) e given).1 }
+  begun_noted operation work e given = record { asked = (go (is_started answer) e given).0; fed = (go (is_started answer) e given).1 }
     where
       go : (b : Bool) → after ≡ cond b (record { asked = operation; fed = notes.fed }) notes → (b ≡ true → operation_of operation ≡ work.operation) → (operation_of after.asked ≡ (cond b work (writing (operation_of notes.asked) [])).operation) × (after.fed ≡ notes.fed)
       go true e given = (ap (λ (n : Notes). operation_of n.asked) e ∙ given refl, ap (λ (n : Notes). n.fed) e)
@@ -217,13 +217,13 @@ module _ (bytes : List ℕ) (allowed : frame_refusal bytes ≡ 0) where
       let map = eqb-true (get_or bytes 0 0) 0x0F (not-false (eqb (get_or bytes 0 0) 0x0F) first.0) in
       ap₂ (λ (n map : ℕ). handed n map (fields_in bytes map)) first.1 map
 
-  pub frame-sent : (kind : Kind) (f : Fields) → paper_read (Frame kind f) ≡ read_frame bytes → sent_of f ≡ sent_in bytes
+  pub frame_sent : (kind : Kind) (f : Fields) → paper_read (Frame kind f) ≡ read_frame bytes → sent_of f ≡ sent_in bytes
   unfolding handed sent_in
-  frame-sent kind f e = ap (λ (r : Reading). sent_of r.fields) (e ∙ read)
+  frame_sent kind f e = ap (λ (r : Reading). sent_of r.fields) (e ∙ read)
 
-  pub frame-not-refused : (r : Refusal) → paper_read (Refused r) ≡ read_frame bytes → ⊥
+  pub frame_not_refused : (r : Refusal) → paper_read (Refused r) ≡ read_frame bytes → ⊥
   unfolding handed
-  frame-not-refused r e = omega (arith, number_positive r, ap (λ (r : Reading). r.refused) (e ∙ read))
+  frame_not_refused r e = omega (arith, number_positive r, ap (λ (r : Reading). r.refused) (e ∙ read))
 
 -- a command that was started had such a frame
 started_frame : (panel : Record) (slots bytes : List ℕ) → is_started (start_command panel slots bytes).answer ≡ true → frame_refusal bytes ≡ 0
@@ -240,9 +240,9 @@ module _ (before : PanelState) (slots words places : List ℕ) (call : Call) (fr
   abbrev given : Answer
   given = paper_call carried.answer
 
-  started-command : given ≡ (applied before.panel slots call frame).answer → call ≡ StartCommand → is_started given ≡ true → frame_refusal frame ≡ 0
+  started_command : given ≡ (applied before.panel slots call frame).answer → call ≡ StartCommand → is_started given ≡ true → frame_refusal frame ≡ 0
   unfolding applied
-  started-command e command s =
+  started_command e command s =
       started_frame before.panel slots frame (ap is_started (sym (e ∙ ap (λ (x : Call). (applied before.panel slots x frame).answer) command)) ∙ s)
 
   pub carried_out : {feeds : Bool} → feeds ≡ feeds_after before.panel before.notes.fed given (role_of call frame given) → outcome carried.state.panel slots' given ≡ applied before.panel slots call frame → Listed words places words' places' carried.state.rows (rows_after before.panel feeds (operation_of before.notes.asked) words places before.rows) → ((call ≡ StartCommand → is_started given ≡ true → frame_refusal frame ≡ 0) → NotesAfter before.notes feeds given (role_of call frame given) carried.state.notes) → CallOnBoth before slots words places call frame carried slots' words' places'
@@ -250,7 +250,7 @@ module _ (before : PanelState) (slots words places : List ℕ) (call : Call) (fr
       record {
         done = done;
         listed = subst (λ (b : Bool). Listed words places words' places' carried.state.rows (rows_after before.panel b (operation_of before.notes.asked) words places before.rows)) feeding listed;
-        noted = subst (λ (b : Bool). NotesAfter before.notes b given (role_of call frame given) carried.state.notes) feeding (noted (started-command (ap (λ (o : Outcome). o.answer) done)));
+        noted = subst (λ (b : Bool). NotesAfter before.notes b given (role_of call frame given) carried.state.notes) feeding (noted (started_command (ap (λ (o : Outcome). o.answer) done)));
       }
 
 -- a world that a list of calls leads to has what holds all along
@@ -297,12 +297,12 @@ module _ (world : World) (reached : Reached world) (before : PanelState) (slots 
   unfolding told_now
   told =
       ap (λ (panel : Record). fed_rows panel.m panel.k (operation_of before.notes.asked) words places before.rows) keeps.panel
-      ∙ fed-by-panel m k words places before.rows (operation_of before.notes.asked) world.panel.reach world.panel.counts world.slots agrees (omega (arith, as_long, keeps.words_room)) (omega (arith, as_long, keeps.places_room))
+      ∙ fed_by_panel m k words places before.rows (operation_of before.notes.asked) world.panel.reach world.panel.counts world.slots agrees (omega (arith, as_long, keeps.words_room)) (omega (arith, as_long, keeps.places_room))
       ∙ ap answered (ap₂ (feed m k) keeps.notes.asked keeps.rows)
 
   -- the slots show the list that is kept
-  pub kept-shows : Shows (length slots) slots (rows_of words places before.rows)
-  kept-shows =
+  pub kept_shows : Shows (length slots) slots (rows_of words places before.rows)
+  kept_shows =
       let shown : Shows m world.slots (rows_of words places before.rows) = shows m k world.panel.reach world.panel.counts world.slots (rows_of words places before.rows) agrees in
       subst (λ (n : ℕ). Shows n slots (rows_of words places before.rows)) (sym as_long) (subst (λ (l : List ℕ). Shows m l (rows_of words places before.rows)) (sym keeps.slots_kept) shown)
 
@@ -321,18 +321,18 @@ module _ (world : World) (reached : Reached world) (before : PanelState) (slots 
     answers : answer ≡ (outcome_of world (request call frame)).answer
     answers = ap (λ (o : Outcome). o.answer) same
 
-    feeds-now : feeds_after before.panel before.notes.fed answer role ≡ feeds_now world answer role
-    feeds-now =
+    feeds_now_lem : feeds_after before.panel before.notes.fed answer role ≡ feeds_now world answer role
+    feeds_now_lem =
         ap (λ (panel : Record). feeds_after panel before.notes.fed answer role) keeps.panel
         ∙ feeds_noted world before.notes.fed answer role keeps.notes.fed
 
-    noted-now : NotesAfter before.notes (feeds_now world answer role) answer role carried.state.notes
-    noted-now = subst (λ (feeds : Bool). NotesAfter before.notes feeds answer role carried.state.notes) feeds-now out.noted
+    noted_now : NotesAfter before.notes (feeds_now world answer role) answer role carried.state.notes
+    noted_now = subst (λ (feeds : Bool). NotesAfter before.notes feeds answer role carried.state.notes) feeds_now_lem out.noted
 
-    rows-now : rows_after before.panel (feeds_after before.panel before.notes.fed answer role) (operation_of before.notes.asked) words places before.rows ≡ rows_now world answer role
+    rows_now_lem : rows_after before.panel (feeds_after before.panel before.notes.fed answer role) (operation_of before.notes.asked) words places before.rows ≡ rows_now world answer role
     unfolding rows_now rows_after
-    rows-now =
-        ap₂ (λ (b : Bool) (t : Feeding). cond b t.rows (rows_of words places before.rows)) feeds-now told
+    rows_now_lem =
+        ap₂ (λ (b : Bool) (t : Feeding). cond b t.rows (rows_of words places before.rows)) feeds_now_lem told
         ∙ ap (λ (rows : Rows). cond (feeds_now world answer role) (told_now world).rows rows) keeps.rows
 
     whole : length slots' ≡ length slots
@@ -349,8 +349,8 @@ module _ (world : World) (reached : Reached world) (before : PanelState) (slots 
         record {
           panel = ap (λ (o : Outcome). o.panel) same;
           slots_kept = ap (λ (o : Outcome). o.slots) same;
-          rows = out.listed.shown ∙ rows-now ∙ ap (λ (a : Answer). rows_now world a (role_of call frame a)) answers;
-          notes = subst (λ (a : Answer). NotesKept carried.state.notes (writing_after world.log.writer (role_of call frame a) a) (writer_now world a (role_of call frame a))) answers (notes_kept world answer role before.notes carried.state.notes keeps.notes noted-now);
+          rows = out.listed.shown ∙ rows_now_lem ∙ ap (λ (a : Answer). rows_now world a (role_of call frame a)) answers;
+          notes = subst (λ (a : Answer). NotesKept carried.state.notes (writing_after world.log.writer (role_of call frame a) a) (writer_now world a (role_of call frame a))) answers (notes_kept world answer role before.notes carried.state.notes keeps.notes noted_now);
           words_room = omega (arith, out.listed.words_stay.size, keeps.words_room, whole);
           places_room = omega (arith, out.listed.places_stay.size, keeps.places_room, whole);
         }

@@ -39,29 +39,29 @@ module _ (q new : ℕ) where
       go true ih e = cc
       go false ih e = ih e
 
-  pub value-other : (other : ℕ) (rows : Rows) → other ≢ q → entry_of other (with_value q new rows) ≡ entry_of other rows
+  pub value_other : (other : ℕ) (rows : Rows) → other ≢ q → entry_of other (with_value q new rows) ≡ entry_of other rows
   unfolding entry_of with_value
-  value-other other [] h = refl
-  value-other other (r ∷ rows) h = go (eqb r.point other) refl (eqb r.point q) refl (value-other other rows h)
+  value_other other [] h = refl
+  value_other other (r ∷ rows) h = go (eqb r.point other) refl (eqb r.point q) refl (value_other other rows h)
     where
       go : (b : Bool) → eqb r.point other ≡ b → (s : Bool) → eqb r.point q ≡ s → entry_of other (with_value q new rows) ≡ entry_of other rows → cond b (present (cond s new r.value) r.place) (entry_of other (with_value q new rows)) ≡ cond b (present r.value r.place) (entry_of other rows)
       go true e true f ih = let a = eqb-true r.point other e in let b = eqb-true r.point q f in absurd (h (cc))
       go true e false f ih = refl
       go false e s f ih = ih
 
-  pub value-absent : (other : ℕ) (rows : Rows) → entry_of other rows ≡ absent → entry_of other (with_value q new rows) ≡ absent
+  pub value_absent : (other : ℕ) (rows : Rows) → entry_of other rows ≡ absent → entry_of other (with_value q new rows) ≡ absent
   unfolding entry_of with_value
-  value-absent other [] e = refl
-  value-absent other (r ∷ rows) e = go (eqb r.point other) (value-absent other rows) e
+  value_absent other [] e = refl
+  value_absent other (r ∷ rows) e = go (eqb r.point other) (value_absent other rows) e
     where
       go : (b : Bool) → (entry_of other rows ≡ absent → entry_of other (with_value q new rows) ≡ absent) → cond b (present r.value r.place) (entry_of other rows) ≡ absent → cond b (present (cond (eqb r.point q) new r.value) r.place) (entry_of other (with_value q new rows)) ≡ absent
       go true ih e = present≢absent e
       go false ih e = ih e
 
-  pub value-length : (rows : Rows) → length (with_value q new rows) ≡ length rows
+  pub value_length : (rows : Rows) → length (with_value q new rows) ≡ length rows
   unfolding with_value
-  value-length [] = refl
-  value-length (r ∷ rows) = ap suc (value-length rows)
+  value_length [] = refl
+  value_length (r ∷ rows) = ap suc (value_length rows)
 
 module _ (q : ℕ) where
   pub gone : (rows : Rows) → entry_of q (without q rows) ≡ absent
@@ -82,17 +82,17 @@ module _ (q : ℕ) where
       go true e ih = let a = eqb-true r.point q e in ih ∙ sym (entry_other other r rows (λ b. h (cc)))
       go false e ih = ap (cond (eqb r.point other) (present r.value r.place)) ih
 
-  pub left-absent : (other : ℕ) (rows : Rows) → entry_of other rows ≡ absent → entry_of other (without q rows) ≡ absent
-  left-absent other rows e = go (ℕ_discrete other q)
+  pub left_absent : (other : ℕ) (rows : Rows) → entry_of other rows ≡ absent → entry_of other (without q rows) ≡ absent
+  left_absent other rows e = go (ℕ_discrete other q)
     where
       go : Dec (other ≡ q) → entry_of other (without q rows) ≡ absent
       go (yes a) = rw a (gone rows)
       go (no a) = left other rows a ∙ e
 
-  pub without-absent : (rows : Rows) → entry_of q rows ≡ absent → without q rows ≡ rows
+  pub without_absent : (rows : Rows) → entry_of q rows ≡ absent → without q rows ≡ rows
   unfolding entry_of without
-  without-absent [] e = refl
-  without-absent (r ∷ rows) e = go (eqb r.point q) (without-absent rows) e
+  without_absent [] e = refl
+  without_absent (r ∷ rows) e = go (eqb r.point q) (without_absent rows) e
     where
       go : (b : Bool) → (entry_of q rows ≡ absent → without q rows ≡ rows) → cond b (present r.value r.place) (entry_of q rows) ≡ absent → cond b (without q rows) (r ∷ without q rows) ≡ r ∷ rows
       go true ih e = present≢absent e
@@ -106,7 +106,7 @@ Distinct (r ∷ rows) = (entry_of r.point rows ≡ absent) × Distinct rows
 pub distinct_value : (q new : ℕ) (rows : Rows) → Distinct rows → Distinct (with_value q new rows)
 unfolding with_value
 distinct_value q new [] d = tt
-distinct_value q new (r ∷ rows) d = (value-absent q new r.point rows d.0, distinct_value q new rows d.1)
+distinct_value q new (r ∷ rows) d = (value_absent q new r.point rows d.0, distinct_value q new rows d.1)
 
 pub distinct_without : (q : ℕ) (rows : Rows) → Distinct rows → Distinct (without q rows)
 unfolding without
@@ -115,7 +115,7 @@ distinct_without q (r ∷ rows) d = go (eqb r.point q) (distinct_without q rows 
   where
     go : (b : Bool) → Distinct (without q rows) → Distinct (cond b (without q rows) (r ∷ without q rows))
     go true ih = ih
-    go false ih = (left-absent q r.point rows d.0, ih)
+    go false ih = (left_absent q r.point rows d.0, ih)
 
 pub without_length : (q value place : ℕ) (rows : Rows) → Distinct rows → entry_of q rows ≡ present value place → suc (length (without q rows)) ≡ length rows
 unfolding entry_of without
@@ -124,7 +124,7 @@ without_length q value place (r ∷ rows) d e = go (eqb r.point q) refl (without
   where
     go : (b : Bool) → eqb r.point q ≡ b → (entry_of q rows ≡ present value place → suc (length (without q rows)) ≡ length rows) → cond b (present r.value r.place) (entry_of q rows) ≡ present value place → suc (length (cond b (without q rows) (r ∷ without q rows))) ≡ suc (length rows)
     go true f ih e =
-        ap (λ (l : Rows). suc (length l)) (without-absent q rows (ap (λ (x : ℕ). entry_of x rows) (sym (eqb-true r.point q f)) ∙ d.0))
+        ap (λ (l : Rows). suc (length l)) (without_absent q rows (ap (λ (x : ℕ). entry_of x rows) (sym (eqb-true r.point q f)) ∙ d.0))
     go false f ih e = ap suc (ih e)
 
 -- a point that stays on the list keeps its place: all that readers need to know of what the writer does
@@ -139,7 +139,7 @@ steady_value p new rows q value place value' place' e e' = go (ℕ_discrete q p)
   where
     go : Dec (q ≡ p) → place ≡ place'
     go (yes a) = let f = value_same q new rows value place e in cc
-    go (no a) = let f = value-other p new q rows a in cc
+    go (no a) = let f = value_other p new q rows a in cc
 
 pub steady_without : (p : ℕ) (rows : Rows) → Steady rows (without p rows)
 steady_without p rows q value place value' place' e e' = go (ℕ_discrete q p)
@@ -170,7 +170,7 @@ at_value q new rows place a = go (ℕ_discrete a.point q)
   where
     go : Dec (a.point ≡ q) → At (with_value q new rows) place
     go (yes e) = record { point = q; value = new; found = value_same q new rows a.value place (rw e at a.found) }
-    go (no e) = record { point = a.point; value = a.value; found = value-other q new a.point rows e ∙ a.found }
+    go (no e) = record { point = a.point; value = a.value; found = value_other q new a.point rows e ∙ a.found }
 
 either_right : (a : Bool) → either a true ≡ true
 unfolding either

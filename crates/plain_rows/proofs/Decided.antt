@@ -15,7 +15,7 @@ use Rattle.plain_list.specs.PlainList.{Row}
 use Rattle.plain_rows.specs.declared.Fed.{Fed}
 use Rattle.plain_rows.specs.Rows.{row_at, rows_of, SameFrom}
 use Rattle.plain_rows.specs.Fed.{Feeding, Feeds}
-use Rattle.plain_rows.proofs.RowsLaws.{rows-length}
+use Rattle.plain_rows.proofs.RowsLaws.{rows_length}
 
 -- a word is told by its point and its value
 word_halves : (a b : ℕ) → point_of a ≡ point_of b → value_of a ≡ value_of b → a ≡ b
@@ -48,7 +48,7 @@ module _ (words places words₁ places₁ words₂ places₂ : List ℕ) (fed₁
       let same = a.shown ∙ sym b.shown in
       let rows : rows_of words₁ places₁ fed₁.count ≡ rows_of words₂ places₂ fed₂.count = ap (λ (x : Feeding). x.rows) same in
       let answer = whole_tells fed₁.answer fed₂.answer (ap (λ (x : Feeding). x.answer) same) in
-      let count : fed₁.count ≡ fed₂.count = sym (rows-length words₁ places₁ fed₁.count) ∙ ap length rows ∙ rows-length words₂ places₂ fed₂.count in
+      let count : fed₁.count ≡ fed₂.count = sym (rows_length words₁ places₁ fed₁.count) ∙ ap length rows ∙ rows_length words₂ places₂ fed₂.count in
       let told-row : (i : ℕ) → i < fed₁.count → row_at words₁ places₁ i ≡ row_at words₂ places₂ i = λ i h. row_told words₁ places₁ words₂ places₂ fed₁.count i (rows ∙ ap (rows_of words₂ places₂) (sym count)) h in (
         slice_same fed₁.count words words₁ words₂ a.words_stay (rw count b.words_stay)
             (λ i h. word_halves (get_or words₁ i 0) (get_or words₂ i 0) (ap (λ (r : Row). r.point) (told-row i h)) (ap (λ (r : Row). r.value) (told-row i h))),

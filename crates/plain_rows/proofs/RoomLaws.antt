@@ -16,11 +16,11 @@ use Rattle.hash.proofs.Laws.{position_below}
 use Rattle.slot_words.proofs.TakenLaws.{taken_high, taken_room}
 use Rattle.plain_list.specs.PlainList.{Rows, Entry, absent, present, entry_of, without, is_place, lowest, first_free, add_row, put_entry, put_row, change_entry, change_row, remove_entry, remove_row, Operation, nothing, put, change, removal, feed}
 use Rattle.plain_list.proofs.Agreement.{Agrees}
-use Rattle.plain_list.proofs.RowLaws.{value-length, At, found_place}
+use Rattle.plain_list.proofs.RowLaws.{value_length, At, found_place}
 use Rattle.plain_rows.specs.Rows.{rows_of, Room}
 use Rattle.plain_rows.specs.Fed.{answered, fed_rows}
-use Rattle.plain_rows.proofs.RowsLaws.{rows-length}
-use Rattle.plain_rows.proofs.FedLaws.{in-room}
+use Rattle.plain_rows.proofs.RowsLaws.{rows_length}
+use Rattle.plain_rows.proofs.FedLaws.{in_room}
 
 without_high : (q : ℕ) (rows : Rows) → length (without q rows) ≤ length rows
 unfolding without
@@ -57,49 +57,49 @@ free_room m k reach counts slots rows agrees q h =
 
 -- a list of at most n rows, of fewer where a position is free, has at most n rows after it was fed
 module _ (m k n : ℕ) (rows : Rows) (few : length rows ≤ n) (fewer : (q : ℕ) → first_free m k q rows ≢ 0 → length rows < n) where
-  added-high : (q value index : ℕ) → (index ≢ 0 → length rows < n) → length (add_row m k q value rows index).rows ≤ n
+  added_high : (q value index : ℕ) → (index ≢ 0 → length rows < n) → length (add_row m k q value rows index).rows ≤ n
   unfolding add_row
-  added-high q value zero h = few
-  added-high q value (suc i) h = h (omega arith)
+  added_high q value zero h = few
+  added_high q value (suc i) h = h (omega arith)
 
-  put-high : (q value : ℕ) (entry : Entry) → length (put_entry m k q value rows entry).rows ≤ n
+  put_high : (q value : ℕ) (entry : Entry) → length (put_entry m k q value rows entry).rows ≤ n
   unfolding put_entry
-  put-high q value absent = added-high q value (first_free m k q rows) (fewer q)
-  put-high q value (present old place) = omega (arith, value-length q value rows)
+  put_high q value absent = added_high q value (first_free m k q rows) (fewer q)
+  put_high q value (present old place) = omega (arith, value_length q value rows)
 
-  change-high : (q keep flip : ℕ) (entry : Entry) → length (change_entry q keep flip rows entry).rows ≤ n
+  change_high : (q keep flip : ℕ) (entry : Entry) → length (change_entry q keep flip rows entry).rows ≤ n
   unfolding change_entry
-  change-high q keep flip absent = few
-  change-high q keep flip (present value place) = omega (arith, value-length q (bit_xor (bit_and value keep) flip) rows)
+  change_high q keep flip absent = few
+  change_high q keep flip (present value place) = omega (arith, value_length q (bit_xor (bit_and value keep) flip) rows)
 
-  removal-high : (q : ℕ) (entry : Entry) → length (remove_entry m k q rows entry).rows ≤ n
+  removal_high : (q : ℕ) (entry : Entry) → length (remove_entry m k q rows entry).rows ≤ n
   unfolding remove_entry
-  removal-high q absent = few
-  removal-high q (present value place) = omega (arith, without_high q rows)
+  removal_high q absent = few
+  removal_high q (present value place) = omega (arith, without_high q rows)
 
-  fed-high : (operation : Operation) → length (feed m k operation rows).rows ≤ n
+  fed_high : (operation : Operation) → length (feed m k operation rows).rows ≤ n
   unfolding feed put_row change_row remove_row
-  fed-high nothing = few
-  fed-high (put q value) = put-high q value (entry_of q rows)
-  fed-high (change q keep flip) = change-high q keep flip (entry_of q rows)
-  fed-high (removal q) = removal-high q (entry_of q rows)
+  fed_high nothing = few
+  fed_high (put q value) = put_high q value (entry_of q rows)
+  fed_high (change q keep flip) = change_high q keep flip (entry_of q rows)
+  fed_high (removal q) = removal_high q (entry_of q rows)
 
 module _ (m k : ℕ) (words places : List ℕ) (count : ℕ) (operation : Operation) where
   -- slices of n entries or more, and a list that keeps to n rows
-  within-room : (n : ℕ) → Room words places n → count ≤ n → length (feed m k operation (rows_of words places count)).rows ≤ n → fed_rows m k operation words places count ≡ answered (feed m k operation (rows_of words places count))
+  within_room : (n : ℕ) → Room words places n → count ≤ n → length (feed m k operation (rows_of words places count)).rows ≤ n → fed_rows m k operation words places count ≡ answered (feed m k operation (rows_of words places count))
   unfolding fed_rows
-  within-room n room before after =
+  within_room n room before after =
       let part : (i : ℕ) → i ≤ n → Room words places i = λ i h. record { in_words = omega (arith, room.in_words); in_places = omega (arith, room.in_places) } in
-      in-room words places count (part count before) (feed m k operation (rows_of words places count)) (part (length (feed m k operation (rows_of words places count)).rows) after)
+      in_room words places count (part count before) (feed m k operation (rows_of words places count)) (part (length (feed m k operation (rows_of words places count)).rows) after)
 
-  pub fed-with-room : Room words places (count + 1) → fed_rows m k operation words places count ≡ answered (feed m k operation (rows_of words places count))
-  fed-with-room room =
-      let size = rows-length words places count in
-      within-room (count + 1) room (omega arith) (fed-high m k (count + 1) (rows_of words places count) (omega arith) (λ q h. omega arith) operation)
+  pub fed_with_room : Room words places (count + 1) → fed_rows m k operation words places count ≡ answered (feed m k operation (rows_of words places count))
+  fed_with_room room =
+      let size = rows_length words places count in
+      within_room (count + 1) room (omega arith) (fed_high m k (count + 1) (rows_of words places count) (omega arith) (λ q h. omega arith) operation)
 
-  pub fed-by-panel : (reach : ℕ) (counts slots : List ℕ) → Agrees m k reach counts slots (rows_of words places count) → m ≤ length words → m ≤ length places → fed_rows m k operation words places count ≡ answered (feed m k operation (rows_of words places count))
-  fed-by-panel reach counts slots agrees w p =
+  pub fed_by_panel : (reach : ℕ) (counts slots : List ℕ) → Agrees m k reach counts slots (rows_of words places count) → m ≤ length words → m ≤ length places → fed_rows m k operation words places count ≡ answered (feed m k operation (rows_of words places count))
+  fed_by_panel reach counts slots agrees w p =
       let rows = rows_of words places count in
-      let size = rows-length words places count in
+      let size = rows_length words places count in
       let few : length rows ≤ m = omega (arith, agrees.room, agrees.whole, taken_high slots) in
-      within-room m (record { in_words = w; in_places = p }) (omega arith) (fed-high m k m rows few (free_room m k reach counts slots rows agrees) operation)
+      within_room m (record { in_words = w; in_places = p }) (omega arith) (fed_high m k m rows few (free_room m k reach counts slots rows agrees) operation)

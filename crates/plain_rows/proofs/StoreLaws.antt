@@ -10,7 +10,7 @@ use lib.Dec.{eqb}
 use lib.ListN.{length, get_or, set, length-set}
 use lib.Seq.{get_or-set_same, get_or-set_other}
 use Rattle.slot_words.specs.Word.{point_of, value_of, word_of}
-use Rattle.slot_words.proofs.WordLaws.{word-point, word_value}
+use Rattle.slot_words.proofs.WordLaws.{word_point, word_value}
 use Rattle.plain_list.specs.PlainList.{row, with_value, without}
 use Rattle.plain_rows.specs.Rows.{row_at, rows_of, SameFrom, Revalues, Removes}
 use Rattle.plain_rows.proofs.RowsLaws.{rows_more, rows_same}
@@ -41,32 +41,32 @@ row_stored words places i word place w p =
     ∙ rw (get_or-set_same places i place 0 p, rows_same words places words (set places i place) i (λ j l. refl) (below_store places i place))
 
 module _ (words : List ℕ) (point value : ℕ) where
-  pub revalues-none : Revalues words words 0 point value
+  pub revalues_none : Revalues words words 0 point value
   unfolding rows_of with_value
-  revalues-none = record { shown = λ places. refl; words_stay = same_untouched 0 words }
+  revalues_none = record { shown = λ places. refl; words_stay = same_untouched 0 words }
 
   -- the row of a word that `revalued` gives
-  revalued-row : (word place : ℕ) → value < 4294967296 → (b : Bool) → eqb (point_of word) point ≡ b → row (point_of (cond b (word_of point value) word)) (value_of (cond b (word_of point value) word)) place ≡ row (point_of word) (cond b value (value_of word)) place
-  revalued-row word place h true e =
-      rw (word-point point value h, word_value point value h, eqb-true (point_of word) point e)
-  revalued-row word place h false e = refl
+  revalued_row : (word place : ℕ) → value < 4294967296 → (b : Bool) → eqb (point_of word) point ≡ b → row (point_of (cond b (word_of point value) word)) (value_of (cond b (word_of point value) word)) place ≡ row (point_of word) (cond b value (value_of word)) place
+  revalued_row word place h true e =
+      rw (word_point point value h, word_value point value h, eqb-true (point_of word) point e)
+  revalued_row word place h false e = refl
 
-  pub revalues-more : (words' : List ℕ) (i : ℕ) → Revalues words words' i point value → i < length words → value < 4294967296 → Revalues words (set words' i (cond (eqb (point_of (get_or words' i 0)) point) (word_of point value) (get_or words' i 0))) (i + 1) point value
+  pub revalues_more : (words' : List ℕ) (i : ℕ) → Revalues words words' i point value → i < length words → value < 4294967296 → Revalues words (set words' i (cond (eqb (point_of (get_or words' i 0)) point) (word_of point value) (get_or words' i 0))) (i + 1) point value
   unfolding with_value
-  revalues-more words' i r h fits =
+  revalues_more words' i r h fits =
       let word = get_or words' i 0 in
       let b = eqb (point_of word) point in
       record {
         shown = λ places. word_stored words' places i (cond b (word_of point value) word) (omega (arith, r.words_stay.size))
-            ∙ rw (revalued-row word (get_or places i 0) fits b refl, r.shown places, r.words_stay.rest i (omega arith))
+            ∙ rw (revalued_row word (get_or places i 0) fits b refl, r.shown places, r.words_stay.rest i (omega arith))
             (sym (ap (with_value point value) (rows_more words places i)));
         words_stay = same_stored words words' i (cond b (word_of point value) word) r.words_stay;
       }
 
 module _ (words places : List ℕ) (point : ℕ) where
-  pub removes-none : Removes words places words places 0 0 point
+  pub removes_none : Removes words places words places 0 0 point
   unfolding rows_of without
-  removes-none =
+  removes_none =
       record {
         fewer = omega arith;
         shown = refl;
@@ -80,8 +80,8 @@ module _ (words places : List ℕ) (point : ℕ) where
   without_more i = ap (without point) (rows_more words places i)
 
   module _ (words' places' : List ℕ) (i left : ℕ) (r : Removes words places words' places' i left point) where
-    pub removes-gone : point_of (get_or words' i 0) ≡ point → Removes words places words' places' (i + 1) left point
-    removes-gone e =
+    pub removes_gone : point_of (get_or words' i 0) ≡ point → Removes words places words' places' (i + 1) left point
+    removes_gone e =
         let same = r.words_stay.rest i r.fewer in
         record {
           fewer = omega (arith, r.fewer);
@@ -90,8 +90,8 @@ module _ (words places : List ℕ) (point : ℕ) where
           places_stay = r.places_stay;
         }
 
-    pub removes-kept : i < length words → i < length places → point_of (get_or words' i 0) ≢ point → Removes words places (set words' left (get_or words' i 0)) (set places' left (get_or places' i 0)) (i + 1) (left + 1) point
-    removes-kept w p e =
+    pub removes_kept : i < length words → i < length places → point_of (get_or words' i 0) ≢ point → Removes words places (set words' left (get_or words' i 0)) (set places' left (get_or places' i 0)) (i + 1) (left + 1) point
+    removes_kept w p e =
         let same = r.words_stay.rest i r.fewer in
         let place = r.places_stay.rest i r.fewer in
         record {

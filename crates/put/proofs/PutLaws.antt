@@ -70,85 +70,85 @@ module _ (k reach place : ℕ) (put : Put) (low : 1 ≤ k) (valid : valid_point 
       high : index ≤ k
       high = within_high 1 index k h
 
-      stage-fits : put_stage_in_range k put.stage ≡ true
-      stage-fits = ap (put_stage_in_range k) e ∙ h
+      stage_fits : put_stage_in_range k put.stage ≡ true
+      stage_fits = ap (put_stage_in_range k) e ∙ h
 
       go : (above : Bool) → ltb reach index ≡ above → OneEffect k reach place (1 + cond above 1 0) (cond above (record { work = Putting put; update = Reach index; progress = continues }) (ends (Counted index) (placed slot index)))
       go true f =
           record {
-            work_fits = both_true (valid_point put.point) _ valid (both_true (put_stage_in_range k put.stage) _ stage-fits made);
+            work_fits = both_true (valid_point put.point) _ valid (both_true (put_stage_in_range k put.stage) _ stage_fits made);
             update_fits = le-leb index k high;
             ended = λ steps. refl;
             less = omega (arith, ap (put_left k index) e, raising_low index index (omega arith));
           }
       go false f = record { work_fits = refl; update_fits = h; ended = λ steps. refl; less = omega arith }
 
-  at-any-stage : (slot word : ℕ) (stage : PutStage) → reach ≤ k → put.stage ≡ stage → put_stage_in_range k stage ≡ true → OneEffect k reach place (put_left k reach stage) (put_stage_advance k reach slot put stage word)
+  at_any_stage : (slot word : ℕ) (stage : PutStage) → reach ≤ k → put.stage ≡ stage → put_stage_in_range k stage ≡ true → OneEffect k reach place (put_left k reach stage) (put_stage_advance k reach slot put stage word)
   unfolding put_stage_advance put_stage_in_range put_left put_search_left search_advance ends writer_in_range update_in_range writer_left
-  at-any-stage slot word (Searching Unread) r e h =
+  at_any_stage slot word (Searching Unread) r e h =
       let one = searched (reach + 1) _ (first_step k reach r) in
       record { work_fits = one.work_fits; update_fits = one.update_fits; ended = one.ended; less = omega (arith, one.less, raising_high reach k r) }
-  at-any-stage slot word (Searching (Probing probe)) r e h = searched _ _ (probe_step k put.point probe word h)
-  at-any-stage slot word (Scanning index) r e h = scanned index word h
-  at-any-stage slot word (PutStage-as-Found place) r e h = record { work_fits = refl; update_fits = refl; ended = λ steps. refl; less = omega arith }
-  at-any-stage slot word (Chosen index) r e h = takes slot index h e
+  at_any_stage slot word (Searching (Probing probe)) r e h = searched _ _ (probe_step k put.point probe word h)
+  at_any_stage slot word (Scanning index) r e h = scanned index word h
+  at_any_stage slot word (PutStage-as-Found place) r e h = record { work_fits = refl; update_fits = refl; ended = λ steps. refl; less = omega arith }
+  at_any_stage slot word (Chosen index) r e h = takes slot index h e
 
 pub put_effect : (k reach place slot : ℕ) (put : Put) (word : ℕ) → 1 ≤ k → reach ≤ k → put_in_range k put ≡ true → OneEffect k reach place (writer_left k reach (Putting put)) (put_advance k reach slot put word)
 unfolding put_advance put_in_range writer_left
 put_effect k reach place slot put word low r h =
     let rest = both_right (valid_point put.point) _ h in
-    at-any-stage k reach place put low (both_left (valid_point put.point) _ h) (both_right (put_stage_in_range k put.stage) _ rest) slot word put.stage r refl
+    at_any_stage k reach place put low (both_left (valid_point put.point) _ h) (both_right (put_stage_in_range k put.stage) _ rest) slot word put.stage r refl
     (both_left (put_stage_in_range k put.stage) _ rest)
 
 -- the step whose access stores the reach, and no other, updates the reach
 module _ (m k reach slot : ℕ) (put : Put) (word : ℕ) where
-  searched-reach : (after : Searched) → reach_after reach (put_searched put after).update ≡ reach
+  searched_reach : (after : Searched) → reach_after reach (put_searched put after).update ≡ reach
   unfolding put_searched put_answered put_at going_on
-  searched-reach (Going search) = refl
-  searched-reach (Answered (SearchAnswer-as-Found place)) = refl
-  searched-reach (Answered Unknown) = refl
+  searched_reach (Going search) = refl
+  searched_reach (Answered (SearchAnswer-as-Found place)) = refl
+  searched_reach (Answered Unknown) = refl
 
-  scanned-reach : (index : ℕ) → reach_after reach (put_scanned k put index word).update ≡ reach
+  scanned_reach : (index : ℕ) → reach_after reach (put_scanned k put index word).update ≡ reach
   unfolding put_scanned put_at going_on ends
-  scanned-reach index = go (eqb word 0) (ltb index k)
+  scanned_reach index = go (eqb word 0) (ltb index k)
     where
       go : (empty below : Bool) → reach_after reach (cond empty (put_at put (Chosen index)) (cond below (put_at put (Scanning (index + 1))) (ends Nothing (ended_with 6)))).update ≡ reach
       go true below = refl
       go false true = refl
       go false false = refl
 
-  takes-reach : (index : ℕ) → reach_after reach (put_takes reach slot put index).update ≡ reach_stored reach (put_stage_access m reach put (Chosen index))
+  takes_reach : (index : ℕ) → reach_after reach (put_takes reach slot put index).update ≡ reach_stored reach (put_stage_access m reach put (Chosen index))
   unfolding exceeds put_takes put_stage_access store_word ends reach_stored
-  takes-reach index = go (ltb reach index)
+  takes_reach index = go (ltb reach index)
     where
       go : (above : Bool) → reach_after reach (cond {A = WriterEffect} above (record { work = Putting put; update = Reach index; progress = continues }) (ends (Counted index) (placed slot index))).update ≡ reach_stored reach (cond above (StoreReach index) (store_word m put.point index (word_of put.point put.value)))
       go true = refl
       go false = refl
 
-  stage-reach : (stage : PutStage) → reach_after reach (put_stage_advance k reach slot put stage word).update ≡ reach_stored reach (put_stage_access m reach put stage)
+  stage_reach : (stage : PutStage) → reach_after reach (put_stage_advance k reach slot put stage word).update ≡ reach_stored reach (put_stage_access m reach put stage)
   unfolding put_stage_advance put_stage_access store_word ends reach_stored
-  stage-reach (Searching search) = searched-reach (search_advance reach put.point search word)
-  stage-reach (Scanning index) = scanned-reach index
-  stage-reach (PutStage-as-Found place) = refl
-  stage-reach (Chosen index) = takes-reach index
+  stage_reach (Searching search) = searched_reach (search_advance reach put.point search word)
+  stage_reach (Scanning index) = scanned_reach index
+  stage_reach (PutStage-as-Found place) = refl
+  stage_reach (Chosen index) = takes_reach index
 
-  pub put-reach : reach_after reach (put_advance k reach slot put word).update ≡ reach_stored reach (put_access m reach put)
+  pub put_reach : reach_after reach (put_advance k reach slot put word).update ≡ reach_stored reach (put_access m reach put)
   unfolding put_advance put_access
-  put-reach = stage-reach put.stage
+  put_reach = stage_reach put.stage
 
 -- a step reads or stores one of the slots lent
 module _ (m reach : ℕ) (put : Put) (low : 1 ≤ m) where
-  stage-inside : (stage : PutStage) → slot_named (put_stage_access m reach put stage) < m
+  stage_inside : (stage : PutStage) → slot_named (put_stage_access m reach put stage) < m
   unfolding exceeds put_stage_access store_word slot_named slot_read
-  stage-inside (Searching search) = search_inside m put.point search low
-  stage-inside (Scanning index) = position_below m put.point index low
-  stage-inside (PutStage-as-Found place) = position_below m put.point place.index low
-  stage-inside (Chosen index) = go (ltb reach index)
+  stage_inside (Searching search) = search_inside m put.point search low
+  stage_inside (Scanning index) = position_below m put.point index low
+  stage_inside (PutStage-as-Found place) = position_below m put.point place.index low
+  stage_inside (Chosen index) = go (ltb reach index)
     where
       go : (above : Bool) → slot_named (cond above (StoreReach index) (store_word m put.point index (word_of put.point put.value))) < m
       go true = low
       go false = position_below m put.point index low
 
-  pub put-inside : slot_named (put_access m reach put) < m
+  pub put_inside : slot_named (put_access m reach put) < m
   unfolding put_access
-  put-inside = stage-inside put.stage
+  put_inside = stage_inside put.stage

@@ -25,7 +25,7 @@ use Rattle.counting.specs.Steps.{step_bound, lookup_counted, reader_counted}
 use Rattle.work_ranges.specs.WorkRanges.{search_in_range, steps_in_range, lookup_in_range, work_in_range}
 use Rattle.work_ranges.proofs.CountedRanges.{none_made, reader_counted_fits}
 use Rattle.record_ranges.specs.Ranges.{in_range}
-use Rattle.record_ranges.proofs.Laws.{fields, sizes-in-range, work-in-range, with-work-in-range}
+use Rattle.record_ranges.proofs.Laws.{fields, sizes_in_range_lem, work_in_range_lem, with_work_in_range}
 use Rattle.search.specs.declared.access.ReadAccess.TheVariants.{Slot}
 use Rattle.search.specs.declared.Searched.{Searched}
 use Rattle.search.specs.declared.Searched.TheVariants.{Going, Answered}
@@ -66,21 +66,21 @@ module _ (reader : ℕ) (panel : Record) (slots : List ℕ) where
         others_stay = λ other h. others_stay panel reader other work h;
       }
 
-  pub step-leaves : OnlyWorkOf reader panel slots (step_reader panel slots reader)
+  pub step_leaves : OnlyWorkOf reader panel slots (step_reader panel slots reader)
   unfolding step_reader reader_runs after_step
-  step-leaves = unless (OnlyWorkOf reader panel slots) (step_refusal (length slots) panel reader) (outcome panel slots) _ untouched (λ e. replaced _ _)
+  step_leaves = unless (OnlyWorkOf reader panel slots) (step_refusal (length slots) panel reader) (outcome panel slots) _ untouched (λ e. replaced _ _)
 
-  start-leaves : (n : ℕ) (work : ReaderWork) → OnlyWorkOf reader panel slots (start_reader n panel slots reader work)
+  start_leaves : (n : ℕ) (work : ReaderWork) → OnlyWorkOf reader panel slots (start_reader n panel slots reader work)
   unfolding start_reader
-  start-leaves n work = unless (OnlyWorkOf reader panel slots) n (outcome panel slots) _ untouched (λ e. replaced work started)
+  start_leaves n work = unless (OnlyWorkOf reader panel slots) n (outcome panel slots) _ untouched (λ e. replaced work started)
 
-  pub lookup-leaves : (point : ℕ) → OnlyWorkOf reader panel slots (start_lookup panel slots reader point)
+  pub lookup_leaves : (point : ℕ) → OnlyWorkOf reader panel slots (start_lookup panel slots reader point)
   unfolding start_lookup
-  lookup-leaves point = start-leaves _ _
+  lookup_leaves point = start_leaves _ _
 
-  pub walk-leaves : OnlyWorkOf reader panel slots (start_walk panel slots reader)
+  pub walk_leaves : OnlyWorkOf reader panel slots (start_walk panel slots reader)
   unfolding start_walk
-  walk-leaves = start-leaves _ _
+  walk_leaves = start_leaves _ _
 
 -- the steps that are left of a reader's work, at most; of a walk exactly
 unfoldable pub steps_left : ℕ → ℕ → ReaderWork → ℕ
@@ -137,32 +137,32 @@ module _ (panel : Record) (slots : List ℕ) (reader : ℕ) (fits : in_range (le
   kept : Outcome → Type 0
   kept after = in_range (length slots) after.panel ≡ true
 
-  pub step-in-range : in_range (length slots) (step_reader panel slots reader).panel ≡ true
+  pub step_in_range : in_range (length slots) (step_reader panel slots reader).panel ≡ true
   unfolding step_reader reader_runs after_step work_runs kept
-  step-in-range =
+  step_in_range =
       unless kept (step_refusal (length slots) panel reader) (outcome panel slots) _ (λ answer. fits)
       (λ e.
-      with-work-in-range (length slots) panel fits reader _
-      (steps_on panel.m panel.k panel.reach (work_of panel reader) _ (sizes-in-range (length slots) panel fits).k_high (fields (length slots) panel fits).reach_fits
-      (work-in-range (length slots) panel reader fits)).is_in_range)
+      with_work_in_range (length slots) panel fits reader _
+      (steps_on panel.m panel.k panel.reach (work_of panel reader) _ (sizes_in_range_lem (length slots) panel fits).k_high (fields (length slots) panel fits).reach_fits
+      (work_in_range_lem (length slots) panel reader fits)).is_in_range)
 
-  start-in-range : (n : ℕ) (work : ReaderWork) → (n ≡ 0 → work_in_range panel.m panel.k work ≡ true) → in_range (length slots) (start_reader n panel slots reader work).panel ≡ true
+  start_in_range : (n : ℕ) (work : ReaderWork) → (n ≡ 0 → work_in_range panel.m panel.k work ≡ true) → in_range (length slots) (start_reader n panel slots reader work).panel ≡ true
   unfolding start_reader kept
-  start-in-range n work h = unless kept n (outcome panel slots) _ (λ answer. fits) (λ e. with-work-in-range (length slots) panel fits reader work (h e))
+  start_in_range n work h = unless kept n (outcome panel slots) _ (λ answer. fits) (λ e. with_work_in_range (length slots) panel fits reader work (h e))
 
-  pub lookup-start-in-range : (point : ℕ) → in_range (length slots) (start_lookup panel slots reader point).panel ≡ true
+  pub lookup_start_in_range : (point : ℕ) → in_range (length slots) (start_lookup panel slots reader point).panel ≡ true
   unfolding start_lookup lookup_refusal lookup_work_refusal work_in_range
-  lookup-start-in-range point =
-      start-in-range _ _
+  lookup_start_in_range point =
+      start_in_range _ _
       (λ e.
       let after-1 = not_refused (not (in_range (length slots) panel)) 1 _ (omega arith) e in
       let after-3 = not_refused (ltb 15 reader) 3 _ (omega arith) after-1.1 in
       let after-2 = not_refused (not (valid_point point)) 2 _ (omega arith) after-3.1 in
       begun_fits panel.k point (not-false (valid_point point) after-2.0))
 
-  pub walk-start-in-range : in_range (length slots) (start_walk panel slots reader).panel ≡ true
+  pub walk_start_in_range : in_range (length slots) (start_walk panel slots reader).panel ≡ true
   unfolding start_walk work_in_range
-  walk-start-in-range = start-in-range _ _ (λ e. lt-ltb 0 panel.m (omega (arith, (sizes-in-range (length slots) panel fits).m_low)))
+  walk_start_in_range = start_in_range _ _ (λ e. lt-ltb 0 panel.m (omega (arith, (sizes_in_range_lem (length slots) panel fits).m_low)))
 
 pub none_left : (m k : ℕ) (work : ReaderWork) → work_in_range m k work ≡ true → steps_left m k work ≤ 0 → work ≡ Idle
 unfolding work_in_range steps_left search_left
@@ -225,6 +225,6 @@ work_inside m k (Walking walk) h e = ltb-true walk.next m e
 pub access_inside : (panel : Record) (slots : List ℕ) (reader slot : ℕ) → in_range (length slots) panel ≡ true → reader_access panel.m (work_of panel reader) ≡ Slot slot → slot < length slots
 unfolding slot_read
 access_inside panel slots reader slot fits e =
-    let sizes = sizes-in-range (length slots) panel fits in
-    let inside = work_inside panel.m panel.k (work_of panel reader) sizes.m_low (work-in-range (length slots) panel reader fits) in
+    let sizes = sizes_in_range_lem (length slots) panel fits in
+    let inside = work_inside panel.m panel.k (work_of panel reader) sizes.m_low (work_in_range_lem (length slots) panel reader fits) in
     omega (arith, inside, sizes.whole, ap slot_read e)

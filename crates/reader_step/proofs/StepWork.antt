@@ -18,28 +18,28 @@ use Rattle.reader_step.specs.Reader.{ReaderEffect, effect_of, work_refusal, step
 
 module _ (panel : Record) (slots : List ℕ) (reader : ℕ) where
   -- a refused call leaves the work, and so the record
-  pub by-work : (n : ℕ) (effect : ReaderEffect) → after_step panel slots reader (unless_refused n (effect_of (work_of panel reader)) effect) ≡ unless_refused n (outcome panel slots) (after_step panel slots reader effect)
+  pub by_work : (n : ℕ) (effect : ReaderEffect) → after_step panel slots reader (unless_refused n (effect_of (work_of panel reader)) effect) ≡ unless_refused n (outcome panel slots) (after_step panel slots reader effect)
   unfolding after_step unless_refused
-  by-work zero effect = refl
-  by-work (suc n) effect = ap (λ (p : Record). outcome p slots (refused (suc n))) (same_work panel reader (work_of panel reader) refl)
+  by_work zero effect = refl
+  by_work (suc n) effect = ap (λ (p : Record). outcome p slots (refused (suc n))) (same_work panel reader (work_of panel reader) refl)
 
-  pub step-by-work : (fits : Bool) → after_step panel slots reader (step_work fits reader panel.m panel.k panel.reach (work_of panel reader) slots) ≡ step_judged fits panel slots reader
+  pub step_by_work : (fits : Bool) → after_step panel slots reader (step_work fits reader panel.m panel.k panel.reach (work_of panel reader) slots) ≡ step_judged fits panel slots reader
   unfolding step_work step_judged reader_runs
-  step-by-work fits = by-work _ _
+  step_by_work fits = by_work _ _
 
   -- a reader's step judges the record first
-  pub judged-first : step_judged (in_range (length slots) panel) panel slots reader ≡ step_reader panel slots reader
+  pub judged_first : step_judged (in_range (length slots) panel) panel slots reader ≡ step_reader panel slots reader
   unfolding step_judged step_reader step_refusal
-  judged-first = refl
+  judged_first = refl
 
 -- A reader's call on the work found at the reader's place, and what it makes of it put there. Above 15 that place is another reader's; there the call is
 -- refused, whatever is judged later, and so leaves that reader's work.
 module _ (panel : Record) (slots : List ℕ) (reader : ℕ) (later : ReaderWork → ℕ) (effect : ReaderWork → ReaderEffect) where
-  abbrev refusalOf : Bool → Bool → ReaderWork → ℕ
-  refusalOf fits above work = refuse_if (not fits) 1 (refuse_if above 3 (later work))
+  abbrev refusal_of : Bool → Bool → ReaderWork → ℕ
+  refusal_of fits above work = refuse_if (not fits) 1 (refuse_if above 3 (later work))
 
   abbrev done : Bool → Bool → ℕ → Outcome
-  done fits above at = unless_refused (refusalOf fits above (work_of panel at)) (outcome panel slots) (after_step panel slots at (effect (work_of panel at)))
+  done fits above at = unless_refused (refusal_of fits above (work_of panel at)) (outcome panel slots) (after_step panel slots at (effect (work_of panel at)))
 
   same_place : (above fits : Bool) → ltb 15 reader ≡ above → done fits above (reader_place reader) ≡ done fits above reader
   unfolding refuse_if unless_refused
@@ -50,11 +50,11 @@ module _ (panel : Record) (slots : List ℕ) (reader : ℕ) (later : ReaderWork 
   pub in_place :
       (fits : Bool)
       → let work = (get_or panel.readers (reader_place reader) idle_reader).work in
-      let e = unless_refused (refusalOf fits (ltb 15 reader) work) (effect_of work) (effect work) in
+      let e = unless_refused (refusal_of fits (ltb 15 reader) work) (effect_of work) (effect work) in
       outcome (with_readers panel (set panel.readers (reader_place reader) (reader_with e.work))) slots e.answer
       ≡ done fits (ltb 15 reader) reader
   unfolding after_step with_work work_of
-  in_place fits = by-work panel slots (reader_place reader) _ _ ∙ same_place (ltb 15 reader) fits refl
+  in_place fits = by_work panel slots (reader_place reader) _ _ ∙ same_place (ltb 15 reader) fits refl
 
 pub step_in_place :
     (panel : Record) (slots : List ℕ) (reader : ℕ)

@@ -12,57 +12,57 @@ use lib.Seq.{set_out, get_or-set_same, get_or-set_other}
 use Rattle.record.specs.Parts.{numbered, with_numbered, numbered_place}
 
 module _ {A : Type 0} (list : List A) where
-  pub numbered-at : (n : ℕ) (none : A) → 1 ≤ n → numbered list n none ≡ get_or list (n - 1) none
+  pub numbered_at : (n : ℕ) (none : A) → 1 ≤ n → numbered list n none ≡ get_or list (n - 1) none
   unfolding numbered
-  numbered-at zero none h = absurd (omega arith)
-  numbered-at (suc i) none h = ap (λ (j : ℕ). get_or list j none) (omega arith)
+  numbered_at zero none h = absurd (omega arith)
+  numbered_at (suc i) none h = ap (λ (j : ℕ). get_or list j none) (omega arith)
 
-  pub numbered-zero : (n : ℕ) (none : A) → n ≡ 0 → numbered list n none ≡ none
+  pub numbered_zero : (n : ℕ) (none : A) → n ≡ 0 → numbered list n none ≡ none
   unfolding numbered
-  numbered-zero zero none h = refl
-  numbered-zero (suc i) none h = absurd (omega arith)
+  numbered_zero zero none h = refl
+  numbered_zero (suc i) none h = absurd (omega arith)
 
-  pub numbered-past : (n : ℕ) (none : A) → length list < n → numbered list n none ≡ none
+  pub numbered_past : (n : ℕ) (none : A) → length list < n → numbered list n none ≡ none
   unfolding numbered
-  numbered-past zero none h = refl
-  numbered-past (suc i) none h = get_or-eq_default list none (omega arith)
+  numbered_past zero none h = refl
+  numbered_past (suc i) none h = get_or-eq_default list none (omega arith)
 
-  pub replaced-at : (n : ℕ) (new : A) → 1 ≤ n → with_numbered list n new ≡ set list (n - 1) new
+  pub replaced_at : (n : ℕ) (new : A) → 1 ≤ n → with_numbered list n new ≡ set list (n - 1) new
   unfolding with_numbered
-  replaced-at zero new h = absurd (omega arith)
-  replaced-at (suc i) new h = ap (λ (j : ℕ). set list j new) (omega arith)
+  replaced_at zero new h = absurd (omega arith)
+  replaced_at (suc i) new h = ap (λ (j : ℕ). set list j new) (omega arith)
 
-  pub replaced-zero : (n : ℕ) (new : A) → n ≡ 0 → with_numbered list n new ≡ list
+  pub replaced_zero : (n : ℕ) (new : A) → n ≡ 0 → with_numbered list n new ≡ list
   unfolding with_numbered
-  replaced-zero zero new h = refl
-  replaced-zero (suc i) new h = absurd (omega arith)
+  replaced_zero zero new h = refl
+  replaced_zero (suc i) new h = absurd (omega arith)
 
-  pub replaced-past : (n : ℕ) (new : A) → length list < n → with_numbered list n new ≡ list
+  pub replaced_past : (n : ℕ) (new : A) → length list < n → with_numbered list n new ≡ list
   unfolding with_numbered
-  replaced-past zero new h = refl
-  replaced-past (suc i) new h = set_out list i new (omega arith)
+  replaced_past zero new h = refl
+  replaced_past (suc i) new h = set_out list i new (omega arith)
 
 -- an element that was replaced, the others, and how many there are
 module _ {A : Type 0} (list : List A) (n : ℕ) (new : A) where
-  pub replaced-length : length (with_numbered list n new) ≡ length list
+  pub replaced_length : length (with_numbered list n new) ≡ length list
   unfolding with_numbered
-  replaced-length = go n
+  replaced_length = go n
     where
       go : (i : ℕ) → length (with_numbered list i new) ≡ length list
       go zero = refl
       go (suc i) = length-set list i new
 
-  pub replaced-same : (none : A) → 1 ≤ n → n ≤ length list → numbered (with_numbered list n new) n none ≡ new
+  pub replaced_same : (none : A) → 1 ≤ n → n ≤ length list → numbered (with_numbered list n new) n none ≡ new
   unfolding numbered with_numbered
-  replaced-same none low high = go n low high
+  replaced_same none low high = go n low high
     where
       go : (i : ℕ) → 1 ≤ i → i ≤ length list → numbered (with_numbered list i new) i none ≡ new
       go zero a b = absurd (omega arith)
       go (suc i) a b = get_or-set_same list i new none (omega arith)
 
-  pub replaced-other : (none : A) (other : ℕ) → other ≢ n → numbered (with_numbered list n new) other none ≡ numbered list other none
+  pub replaced_other : (none : A) (other : ℕ) → other ≢ n → numbered (with_numbered list n new) other none ≡ numbered list other none
   unfolding numbered with_numbered
-  replaced-other none other h = go n other h
+  replaced_other none other h = go n other h
     where
       go : (i j : ℕ) → j ≢ i → numbered (with_numbered list i new) j none ≡ numbered list j none
       go zero j h = refl
@@ -109,8 +109,8 @@ place_below last (suc i) some = go (ltb i last) refl
 
 -- the element of a number that there is, read and replaced at its place
 module _ {A : Type 0} (list : List A) (last n : ℕ) (low : 1 ≤ n) (high : n ≤ last) where
-  pub numbered-in-place : (none : A) → numbered list n none ≡ get_or list (numbered_place last n) none
-  numbered-in-place none = numbered-at list n none low ∙ ap (λ (i : ℕ). get_or list i none) (sym (place_at last n low high))
+  pub numbered_in_place : (none : A) → numbered list n none ≡ get_or list (numbered_place last n) none
+  numbered_in_place none = numbered_at list n none low ∙ ap (λ (i : ℕ). get_or list i none) (sym (place_at last n low high))
 
-  pub replaced-in-place : (new : A) → with_numbered list n new ≡ set list (numbered_place last n) new
-  replaced-in-place new = replaced-at list n new low ∙ ap (λ (i : ℕ). set list i new) (sym (place_at last n low high))
+  pub replaced_in_place : (new : A) → with_numbered list n new ≡ set list (numbered_place last n) new
+  replaced_in_place new = replaced_at list n new low ∙ ap (λ (i : ℕ). set list i new) (sym (place_at last n low high))

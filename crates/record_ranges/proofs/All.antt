@@ -12,24 +12,24 @@ use Rattle.conditions.proofs.ConditionLaws.{both_left, both_right, both_true}
 use Rattle.record_ranges.specs.Ranges.{all}
 
 module _ {A : Type 0} (test : A → Bool) where
-  pub all-passes : (l : List A) (i : ℕ) (d : A) → i < length l → test (get_or l i d) ≡ true → all test (drop (i + 1) l) ≡ all test (drop i l)
+  pub all_passes : (l : List A) (i : ℕ) (d : A) → i < length l → test (get_or l i d) ≡ true → all test (drop (i + 1) l) ≡ all test (drop i l)
   unfolding all both
-  all-passes l i d h e = rw (add-one i, drop-cons l i d h, e)
+  all_passes l i d h e = rw (add-one i, drop-cons l i d h, e)
 
-  pub all-fails : (l : List A) (i : ℕ) (d : A) → i < length l → test (get_or l i d) ≡ false → all test (drop i l) ≡ false
+  pub all_fails : (l : List A) (i : ℕ) (d : A) → i < length l → test (get_or l i d) ≡ false → all test (drop i l) ≡ false
   unfolding all both
-  all-fails l i d h e = rw (drop-cons l i d h, e)
+  all_fails l i d h e = rw (drop-cons l i d h, e)
 
   pub all_done : (l : List A) (i : ℕ) → length l ≤ i → all test (drop i l) ≡ true
   unfolding all
   all_done l i h = rw (drop_of_length-le l h)
 
   -- an element, or what stands for one past the end
-  pub all-at : (l : List A) (i : ℕ) (d : A) → all test l ≡ true → test d ≡ true → test (get_or l i d) ≡ true
+  pub all_at : (l : List A) (i : ℕ) (d : A) → all test l ≡ true → test d ≡ true → test (get_or l i d) ≡ true
   unfolding all
-  all-at [] i d h e = e
-  all-at (x ∷ l) zero d h e = both_left (test x) (all test l) h
-  all-at (x ∷ l) (suc i) d h e = all-at l i d (both_right (test x) (all test l) h) e
+  all_at [] i d h e = e
+  all_at (x ∷ l) zero d h e = both_left (test x) (all test l) h
+  all_at (x ∷ l) (suc i) d h e = all_at l i d (both_right (test x) (all test l) h) e
 
   pub all_set : (l : List A) (i : ℕ) (x : A) → all test l ≡ true → test x ≡ true → all test (set l i x) ≡ true
   unfolding all
@@ -55,7 +55,7 @@ module _ (test : ℕ → Bool) (l : List ℕ) (k i : ℕ) where
   first_done h = all_done test (take k l) i (omega (arith, length-take k l))
 
   pub first_passes : i < k → i < length l → test (get_or l i 0) ≡ true → all test (drop (i + 1) (take k l)) ≡ all test (drop i (take k l))
-  first_passes h g e = all-passes test (take k l) i 0 (omega (arith, length-take k l)) (ap test (get_or-take k l i 0 h) ∙ e)
+  first_passes h g e = all_passes test (take k l) i 0 (omega (arith, length-take k l)) (ap test (get_or-take k l i 0 h) ∙ e)
 
-  pub first-fails : i < k → i < length l → test (get_or l i 0) ≡ false → all test (drop i (take k l)) ≡ false
-  first-fails h g e = all-fails test (take k l) i 0 (omega (arith, length-take k l)) (ap test (get_or-take k l i 0 h) ∙ e)
+  pub first_fails : i < k → i < length l → test (get_or l i 0) ≡ false → all test (drop i (take k l)) ≡ false
+  first_fails h g e = all_fails test (take k l) i 0 (omega (arith, length-take k l)) (ap test (get_or-take k l i 0 h) ∙ e)

@@ -18,8 +18,8 @@ use Rattle.record.specs.Parts.{idle_reader, fresh_record, work_of, with_work, wi
 use Rattle.record.specs.Idle.{is_reader_idle}
 use Rattle.record_ranges.specs.Ranges.{all, sizes_in_range, counts_in_range, reader_in_range, readers_in_range, station_in_range, stations_in_range, parts_in_range, in_range}
 use Rattle.work_ranges.specs.WorkRanges.{work_in_range, writer_in_range}
-use Rattle.record_ranges.proofs.All.{all-at, all_set, all_take, all_replicate}
-use Rattle.record_ranges.proofs.NumberedRanges.{all-replaced, all-first-replaced, all-first-at}
+use Rattle.record_ranges.proofs.All.{all_at, all_set, all_take, all_replicate}
+use Rattle.record_ranges.proofs.NumberedRanges.{all_replaced, all_first_replaced, all_first_at}
 
 -- a reader without work, and a station that sent no command, are in range
 pub idle_in_range : (m k : ℕ) (work : ReaderWork) → is_reader_idle work ≡ true → work_in_range m k work ≡ true
@@ -83,20 +83,20 @@ module _ (lent : ℕ) (panel : Record) where
         place_fits = leb-true panel.place 16 (both_right (stations_in_range panel.stations) _ e);
       }
 
-  pub sizes-in-range : in_range lent panel ≡ true → Sizes panel.m panel.k lent
-  sizes-in-range h = sizes panel.m panel.k lent (fields h).sizes_fit
+  pub sizes_in_range_lem : in_range lent panel ≡ true → Sizes panel.m panel.k lent
+  sizes_in_range_lem h = sizes panel.m panel.k lent (fields h).sizes_fit
 
   -- no reach is above the largest number of functions
   pub reach_high : in_range lent panel ≡ true → panel.reach ≤ 64
-  reach_high h = omega (arith, (fields h).reach_fits, (sizes-in-range h).k_high)
+  reach_high h = omega (arith, (fields h).reach_fits, (sizes_in_range_lem h).k_high)
 
-  pub work-in-range : (reader : ℕ) → in_range lent panel ≡ true → work_in_range panel.m panel.k (work_of panel reader) ≡ true
+  pub work_in_range_lem : (reader : ℕ) → in_range lent panel ≡ true → work_in_range panel.m panel.k (work_of panel reader) ≡ true
   unfolding readers_in_range reader_in_range work_in_range work_of
-  work-in-range reader h = all-at (reader_in_range panel.m panel.k) panel.readers reader idle_reader (fields h).readers_fit refl
+  work_in_range_lem reader h = all_at (reader_in_range panel.m panel.k) panel.readers reader idle_reader (fields h).readers_fit refl
 
-  readers-replaced : (reader : ℕ) (work : ReaderWork) → readers_in_range panel.m panel.k panel.readers ≡ true → work_in_range panel.m panel.k work ≡ true → readers_in_range panel.m panel.k (with_work panel reader work).readers ≡ true
+  readers_replaced : (reader : ℕ) (work : ReaderWork) → readers_in_range panel.m panel.k panel.readers ≡ true → work_in_range panel.m panel.k work ≡ true → readers_in_range panel.m panel.k (with_work panel reader work).readers ≡ true
   unfolding readers_in_range reader_in_range with_work with_readers
-  readers-replaced reader work h e = all_set (reader_in_range panel.m panel.k) panel.readers reader (record { work = work }) h e
+  readers_replaced reader work h e = all_set (reader_in_range panel.m panel.k) panel.readers reader (record { work = work }) h e
 
   -- the range test from its parts
   pub is_in_range : Fields lent panel → in_range lent panel ≡ true
@@ -108,9 +108,9 @@ module _ (lent : ℕ) (panel : Record) where
 
 -- a record in range stays so if what replaces a part of it is in range
 module _ (lent : ℕ) (panel : Record) (h : in_range lent panel ≡ true) where
-  pub with-work-in-range : (reader : ℕ) (work : ReaderWork) → work_in_range panel.m panel.k work ≡ true → in_range lent (with_work panel reader work) ≡ true
+  pub with_work_in_range : (reader : ℕ) (work : ReaderWork) → work_in_range panel.m panel.k work ≡ true → in_range lent (with_work panel reader work) ≡ true
   unfolding with_work with_readers
-  with-work-in-range reader work e =
+  with_work_in_range reader work e =
       let f = fields lent panel h in
       is_in_range lent (with_work panel reader work)
       (record {
@@ -118,14 +118,14 @@ module _ (lent : ℕ) (panel : Record) (h : in_range lent panel ≡ true) where
         reach_fits = f.reach_fits;
         counts_fit = f.counts_fit;
         writer_fits = f.writer_fits;
-        readers_fit = readers-replaced lent panel reader work f.readers_fit e;
+        readers_fit = readers_replaced lent panel reader work f.readers_fit e;
         stations_fit = f.stations_fit;
         place_fits = f.place_fits;
       })
 
-  pub with-writer-in-range : (work : WriterWork) → writer_in_range panel.k work ≡ true → in_range lent (with_writer panel work) ≡ true
+  pub with_writer_in_range : (work : WriterWork) → writer_in_range panel.k work ≡ true → in_range lent (with_writer panel work) ≡ true
   unfolding with_writer
-  with-writer-in-range work e =
+  with_writer_in_range work e =
       let f = fields lent panel h in
       is_in_range lent (with_writer panel work)
       (record {
@@ -138,9 +138,9 @@ module _ (lent : ℕ) (panel : Record) (h : in_range lent panel ≡ true) where
         place_fits = f.place_fits;
       })
 
-  pub with-reach-in-range : (reach : ℕ) → reach ≤ panel.k → in_range lent (with_reach panel reach) ≡ true
+  pub with_reach_in_range : (reach : ℕ) → reach ≤ panel.k → in_range lent (with_reach panel reach) ≡ true
   unfolding with_reach
-  with-reach-in-range reach e =
+  with_reach_in_range reach e =
       let f = fields lent panel h in
       is_in_range lent (with_reach panel reach)
       (record {
@@ -153,24 +153,24 @@ module _ (lent : ℕ) (panel : Record) (h : in_range lent panel ≡ true) where
         place_fits = f.place_fits;
       })
 
-  pub with-count-in-range : (index count : ℕ) → count ≤ panel.m → in_range lent (with_count panel index count) ≡ true
+  pub with_count_in_range : (index count : ℕ) → count ≤ panel.m → in_range lent (with_count panel index count) ≡ true
   unfolding with_count with_counts counts_in_range
-  with-count-in-range index count e =
+  with_count_in_range index count e =
       let f = fields lent panel h in
       is_in_range lent (with_count panel index count)
       (record {
         sizes_fit = f.sizes_fit;
         reach_fits = f.reach_fits;
-        counts_fit = all-first-replaced (λ (c : ℕ). leb c panel.m) panel.k panel.counts index count f.counts_fit (le-leb count panel.m e);
+        counts_fit = all_first_replaced (λ (c : ℕ). leb c panel.m) panel.k panel.counts index count f.counts_fit (le-leb count panel.m e);
         writer_fits = f.writer_fits;
         readers_fit = f.readers_fit;
         stations_fit = f.stations_fit;
         place_fits = f.place_fits;
       })
 
-  pub with-station-in-range : (station : ℕ) (last : Station) → station_in_range last ≡ true → in_range lent (with_station panel station last) ≡ true
+  pub with_station_in_range : (station : ℕ) (last : Station) → station_in_range last ≡ true → in_range lent (with_station panel station last) ≡ true
   unfolding with_station with_stations stations_in_range
-  with-station-in-range station last e =
+  with_station_in_range station last e =
       let f = fields lent panel h in
       is_in_range lent (with_station panel station last)
       (record {
@@ -179,13 +179,13 @@ module _ (lent : ℕ) (panel : Record) (h : in_range lent panel ≡ true) where
         counts_fit = f.counts_fit;
         writer_fits = f.writer_fits;
         readers_fit = f.readers_fit;
-        stations_fit = all-replaced station_in_range panel.stations station last f.stations_fit e;
+        stations_fit = all_replaced station_in_range panel.stations station last f.stations_fit e;
         place_fits = f.place_fits;
       })
 
-  pub with-place-in-range : (place : ℕ) → place ≤ 16 → in_range lent (with_place panel place) ≡ true
+  pub with_place_in_range : (place : ℕ) → place ≤ 16 → in_range lent (with_place panel place) ≡ true
   unfolding with_place
-  with-place-in-range place e =
+  with_place_in_range place e =
       let f = fields lent panel h in
       is_in_range lent (with_place panel place)
       (record {
@@ -199,11 +199,11 @@ module _ (lent : ℕ) (panel : Record) (h : in_range lent panel ≡ true) where
       })
 
   -- "how many stored points use it (0 to m)", of an index that is judged
-  pub count-in-range : (index : ℕ) → index ≤ panel.k → count_of panel index ≤ panel.m
+  pub count_in_range : (index : ℕ) → index ≤ panel.k → count_of panel index ≤ panel.m
   unfolding count_of counts_in_range
-  count-in-range index e =
+  count_in_range index e =
       leb-true (count_of panel index) panel.m
-      (all-first-at (λ (c : ℕ). leb c panel.m) panel.k panel.counts index 0 (fields lent panel h).counts_fit (leb-zero panel.m) e)
+      (all_first_at (λ (c : ℕ). leb c panel.m) panel.k panel.counts index 0 (fields lent panel h).counts_fit (leb-zero panel.m) e)
 
 pub fresh_in_range : (m k lent : ℕ) → sizes_in_range m k lent ≡ true → in_range lent (fresh_record m k) ≡ true
 unfolding in_range parts_in_range fresh_record counts_in_range writer_in_range readers_in_range reader_in_range work_in_range stations_in_range station_in_range all both either

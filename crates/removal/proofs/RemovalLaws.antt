@@ -27,7 +27,7 @@ use Rattle.effects.specs.declared.update.Update.{Update}
 use Rattle.effects.specs.declared.update.Update.TheVariants.{Nothing, Uncounted}
 use Rattle.effects.specs.Counts.{largest_counted}
 use Rattle.effects.specs.Effects.{ends, reach_after}
-use Rattle.effects.proofs.CountLaws.{largest-high}
+use Rattle.effects.proofs.CountLaws.{largest_high}
 use Rattle.effects.proofs.EffectLaws.{slot_named, update_in_range, reach_stored, removal_left, writer_left, OneEffect}
 use Rattle.removal.specs.Removal.{removal_stage_access, removal_access, removal_at, removal_answered, removal_searched, is_last, removal_empties, removal_lowers, removal_stage_advance, removal_advance}
 
@@ -52,54 +52,54 @@ module _ (k reach place : ℕ) (counts : List ℕ) (removal : Removal) (valid : 
       go true = at_stage 2 Lowering (Uncounted index) refl h (omega arith)
       go false = record { work_fits = refl; update_fits = h; ended = λ steps. refl; less = omega arith }
 
-  at-any-stage : (word : ℕ) (stage : RemovalStage) → reach ≤ k → removal_stage_in_range k stage ≡ true → OneEffect k reach place (removal_left k stage) (removal_stage_advance k reach counts removal stage word)
+  at_any_stage : (word : ℕ) (stage : RemovalStage) → reach ≤ k → removal_stage_in_range k stage ≡ true → OneEffect k reach place (removal_left k stage) (removal_stage_advance k reach counts removal stage word)
   unfolding removal_stage_advance removal_stage_in_range removal_left removal_lowers ends update_in_range writer_in_range writer_left
-  at-any-stage word (Searching search) r h = searched _ _ (search_step k reach removal.point search word r h)
-  at-any-stage word (RemovalStage-as-Found place) r h = empties place.index h
-  at-any-stage word Lowering r h =
-      record { work_fits = refl; update_fits = le-leb (largest_counted k counts) k (largest-high counts k); ended = λ steps. refl; less = omega arith }
+  at_any_stage word (Searching search) r h = searched _ _ (search_step k reach removal.point search word r h)
+  at_any_stage word (RemovalStage-as-Found place) r h = empties place.index h
+  at_any_stage word Lowering r h =
+      record { work_fits = refl; update_fits = le-leb (largest_counted k counts) k (largest_high counts k); ended = λ steps. refl; less = omega arith }
 
 pub removal_effect : (k reach place : ℕ) (counts : List ℕ) (removal : Removal) (word : ℕ) → reach ≤ k → removal_in_range k removal ≡ true → OneEffect k reach place (writer_left k reach (Removing removal)) (removal_advance k reach counts removal word)
 unfolding removal_advance removal_in_range writer_left
 removal_effect k reach place counts removal word r h =
     let rest = both_right (valid_point removal.point) _ h in
-    at-any-stage k reach place counts removal (both_left (valid_point removal.point) _ h) (both_right (removal_stage_in_range k removal.stage) _ rest) word removal.stage r
+    at_any_stage k reach place counts removal (both_left (valid_point removal.point) _ h) (both_right (removal_stage_in_range k removal.stage) _ rest) word removal.stage r
     (both_left (removal_stage_in_range k removal.stage) _ rest)
 
 -- the step whose access stores the reach, and no other, updates the reach
 module _ (m k reach : ℕ) (counts : List ℕ) (removal : Removal) (word : ℕ) where
-  searched-reach : (after : Searched) → reach_after reach (removal_searched removal after).update ≡ reach
+  searched_reach : (after : Searched) → reach_after reach (removal_searched removal after).update ≡ reach
   unfolding removal_searched removal_answered removal_at ends
-  searched-reach (Going search) = refl
-  searched-reach (Answered (SearchAnswer-as-Found place)) = refl
-  searched-reach (Answered Unknown) = refl
+  searched_reach (Going search) = refl
+  searched_reach (Answered (SearchAnswer-as-Found place)) = refl
+  searched_reach (Answered Unknown) = refl
 
-  emptied-reach : (index : ℕ) → reach_after reach (removal_empties reach counts removal index).update ≡ reach
+  emptied_reach : (index : ℕ) → reach_after reach (removal_empties reach counts removal index).update ≡ reach
   unfolding removal_empties removal_at ends
-  emptied-reach index = go (is_last reach counts index)
+  emptied_reach index = go (is_last reach counts index)
     where
       go : (last : Bool) → reach_after reach (cond last (removal_at removal Lowering (Uncounted index)) (ends (Uncounted index) (removed reach))).update ≡ reach
       go true = refl
       go false = refl
 
-  stage-reach : (stage : RemovalStage) → reach_after reach (removal_stage_advance k reach counts removal stage word).update ≡ reach_stored reach (removal_stage_access m k counts removal stage)
+  stage_reach : (stage : RemovalStage) → reach_after reach (removal_stage_advance k reach counts removal stage word).update ≡ reach_stored reach (removal_stage_access m k counts removal stage)
   unfolding removal_stage_advance removal_stage_access removal_lowers store_word ends reach_stored
-  stage-reach (Searching search) = searched-reach (search_advance reach removal.point search word)
-  stage-reach (RemovalStage-as-Found place) = emptied-reach place.index
-  stage-reach Lowering = refl
+  stage_reach (Searching search) = searched_reach (search_advance reach removal.point search word)
+  stage_reach (RemovalStage-as-Found place) = emptied_reach place.index
+  stage_reach Lowering = refl
 
-  pub removal-reach : reach_after reach (removal_advance k reach counts removal word).update ≡ reach_stored reach (removal_access m k counts removal)
+  pub removal_reach : reach_after reach (removal_advance k reach counts removal word).update ≡ reach_stored reach (removal_access m k counts removal)
   unfolding removal_advance removal_access
-  removal-reach = stage-reach removal.stage
+  removal_reach = stage_reach removal.stage
 
 -- a step reads or stores one of the slots lent
 module _ (m k : ℕ) (counts : List ℕ) (removal : Removal) (low : 1 ≤ m) where
-  stage-inside : (stage : RemovalStage) → slot_named (removal_stage_access m k counts removal stage) < m
+  stage_inside : (stage : RemovalStage) → slot_named (removal_stage_access m k counts removal stage) < m
   unfolding removal_stage_access store_word slot_named
-  stage-inside (Searching search) = search_inside m removal.point search low
-  stage-inside (RemovalStage-as-Found place) = position_below m removal.point place.index low
-  stage-inside Lowering = low
+  stage_inside (Searching search) = search_inside m removal.point search low
+  stage_inside (RemovalStage-as-Found place) = position_below m removal.point place.index low
+  stage_inside Lowering = low
 
-  pub removal-inside : slot_named (removal_access m k counts removal) < m
+  pub removal_inside : slot_named (removal_access m k counts removal) < m
   unfolding removal_access
-  removal-inside = stage-inside removal.stage
+  removal_inside = stage_inside removal.stage

@@ -18,9 +18,9 @@ use Rattle.rows_shown.specs.Verdict.{word_listed, Decides, stands, rows_stand, o
 
 -- one row more
 module _ (words places : List ℕ) (row : ℕ) where
-  pub stand-more : (slots : List ℕ) → both (rows_stand slots (rows_of words places row)) (stands slots (get_or places row 0) (get_or words row 0)) ≡ rows_stand slots (rows_of words places (row + 1))
+  pub stand_more : (slots : List ℕ) → both (rows_stand slots (rows_of words places row)) (stands slots (get_or places row 0) (get_or words row 0)) ≡ rows_stand slots (rows_of words places (row + 1))
   unfolding rows_stand
-  stand-more slots =
+  stand_more slots =
       let whole : get_or words row 0 ≡ word_of (point_of (get_or words row 0)) (value_of (get_or words row 0)) = omega arith in
       ap (λ (word : ℕ). both (rows_stand slots (rows_of words places row)) (stands slots (get_or places row 0) word)) whole
       ∙ sym (ap (rows_stand slots) (rows_more words places row))
@@ -32,9 +32,9 @@ module _ (words places : List ℕ) (row : ℕ) where
       ap (λ (word : ℕ). cond (eqb (get_or places row 0) place) word (word_listed place (rows_of words places row))) whole
       ∙ sym (ap (word_listed place) (rows_more words places row))
 
-  pub place-more : (place : ℕ) → either (eqb (get_or places row 0) place) (is_place place (rows_of words places row)) ≡ is_place place (rows_of words places (row + 1))
+  pub place_more : (place : ℕ) → either (eqb (get_or places row 0) place) (is_place place (rows_of words places row)) ≡ is_place place (rows_of words places (row + 1))
   unfolding is_place
-  place-more place = sym (ap (is_place place) (rows_more words places row))
+  place_more place = sym (ap (is_place place) (rows_more words places row))
 
 -- one slot more
 pub others_more : (slots : List ℕ) (rows : Rows) (slot : ℕ) → both (others_empty slots rows slot) (either (is_place slot rows) (eqb (get_or slots slot 0) 0)) ≡ others_empty slots rows (slot + 1)
@@ -52,26 +52,26 @@ either_right true b h = refl
 either_right false b h = h refl
 
 module _ (slots : List ℕ) where
-  stand-each : (rows : Rows) → rows_stand slots rows ≡ true → Each (AtPlace (length slots) slots) rows
+  stand_each : (rows : Rows) → rows_stand slots rows ≡ true → Each (AtPlace (length slots) slots) rows
   unfolding rows_stand stands
-  stand-each [] e = tt
-  stand-each (r ∷ rows) e =
+  stand_each [] e = tt
+  stand_each (r ∷ rows) e =
       let first = both_right (rows_stand slots rows) (stands slots r.place (word_of r.point r.value)) e in
       let inside = both_left (ltb r.place (length slots)) (eqb (get_or slots r.place 0) (word_of r.point r.value)) first in
       let word = both_right (ltb r.place (length slots)) (eqb (get_or slots r.place 0) (word_of r.point r.value)) first in
-      (record { inside = ltb-true _ _ inside; word = eqb-true _ _ word }, stand-each rows (both_left (rows_stand slots rows) _ e))
+      (record { inside = ltb-true _ _ inside; word = eqb-true _ _ word }, stand_each rows (both_left (rows_stand slots rows) _ e))
 
-  each-stand : (rows : Rows) → Each (AtPlace (length slots) slots) rows → rows_stand slots rows ≡ true
+  each_stand : (rows : Rows) → Each (AtPlace (length slots) slots) rows → rows_stand slots rows ≡ true
   unfolding rows_stand stands
-  each-stand [] each = refl
-  each-stand (r ∷ rows) each =
-      both_true _ _ (each-stand rows each.1) (both_true _ _ (lt-ltb _ _ each.0.inside) (eq-eqb _ _ each.0.word))
+  each_stand [] each = refl
+  each_stand (r ∷ rows) each =
+      both_true _ _ (each_stand rows each.1) (both_true _ _ (lt-ltb _ _ each.0.inside) (eq-eqb _ _ each.0.word))
 
-  empty-others : (rows : Rows) (n : ℕ) → others_empty slots rows n ≡ true → (slot : ℕ) → slot < n → is_place slot rows ≡ false → get_or slots slot 0 ≡ 0
+  empty_others : (rows : Rows) (n : ℕ) → others_empty slots rows n ≡ true → (slot : ℕ) → slot < n → is_place slot rows ≡ false → get_or slots slot 0 ≡ 0
   unfolding others_empty
-  empty-others rows zero e slot inside none = absurd (omega arith)
-  empty-others rows (suc n) e slot inside none =
-      go (eqb slot n) refl (λ h. empty-others rows n (both_left (others_empty slots rows n) _ e) slot h none)
+  empty_others rows zero e slot inside none = absurd (omega arith)
+  empty_others rows (suc n) e slot inside none =
+      go (eqb slot n) refl (λ h. empty_others rows n (both_left (others_empty slots rows n) _ e) slot h none)
     where
       last : either (is_place n rows) (eqb (get_or slots n 0) 0) ≡ true
       last = both_right (others_empty slots rows n) (either (is_place n rows) (eqb (get_or slots n 0) 0)) e
@@ -82,17 +82,17 @@ module _ (slots : List ℕ) where
           ap (λ (x : ℕ). get_or slots x 0) i ∙ eqb-true _ _ (either_false (is_place n rows) _ last (sym (ap (λ (x : ℕ). is_place x rows) i) ∙ none))
       go false other before = before (omega (arith, eqb-false slot n other))
 
-  others-empty : (rows : Rows) (n : ℕ) → ((slot : ℕ) → slot < n → is_place slot rows ≡ false → get_or slots slot 0 ≡ 0) → others_empty slots rows n ≡ true
+  others_empty_lem : (rows : Rows) (n : ℕ) → ((slot : ℕ) → slot < n → is_place slot rows ≡ false → get_or slots slot 0 ≡ 0) → others_empty slots rows n ≡ true
   unfolding others_empty
-  others-empty rows zero others = refl
-  others-empty rows (suc n) others =
-      both_true _ _ (others-empty rows n (λ slot inside none. others slot (omega arith) none)) (either_right _ _ (λ none. eq-eqb _ _ (others n (omega arith) none)))
+  others_empty_lem rows zero others = refl
+  others_empty_lem rows (suc n) others =
+      both_true _ _ (others_empty_lem rows n (λ slot inside none. others slot (omega arith) none)) (either_right _ _ (λ none. eq-eqb _ _ (others n (omega arith) none)))
 
   pub decided : (rows : Rows) (r : Bool) → r ≡ both (rows_stand slots rows) (others_empty slots rows (length slots)) → Decides (Shows (length slots) slots rows) r
   decided rows true e =
       record {
         whole = refl;
-        words = stand-each rows (both_left _ _ (sym e));
-        others = empty-others rows (length slots) (both_right (rows_stand slots rows) _ (sym e));
+        words = stand_each rows (both_left _ _ (sym e));
+        others = empty_others rows (length slots) (both_right (rows_stand slots rows) _ (sym e));
       }
-  decided rows false e = λ shows. false≢true (e ∙ both_true _ _ (each-stand rows shows.words) (others-empty rows (length slots) shows.others))
+  decided rows false e = λ shows. false≢true (e ∙ both_true _ _ (each_stand rows shows.words) (others_empty_lem rows (length slots) shows.others))

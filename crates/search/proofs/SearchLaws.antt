@@ -52,9 +52,9 @@ module _ (k : ℕ) (probe : Probe) (h : search_in_range k (Probing probe) ≡ tr
   unfolding search_in_range
   next_low = within_low 1 probe.next probe.reach (both_right (leb probe.reach k) (within 1 probe.next probe.reach) h)
 
-  pub next-high : probe.next ≤ probe.reach
+  pub next_high : probe.next ≤ probe.reach
   unfolding search_in_range
-  next-high = within_high 1 probe.next probe.reach (both_right (leb probe.reach k) (within 1 probe.next probe.reach) h)
+  next_high = within_high 1 probe.next probe.reach (both_right (leb probe.reach k) (within 1 probe.next probe.reach) h)
 
   pub reach_high : probe.reach ≤ k
   unfolding search_in_range
@@ -90,7 +90,7 @@ probe_step k point probe word h =
     cond_holds (OneStep k (probe.reach - probe.next + 1)) (holds_point point word) _ _
     (λ hit.
     record {
-      fits = is_within 1 probe.next k (next_low k probe h) (omega (arith, next-high k probe h, reach_high k probe h));
+      fits = is_within 1 probe.next k (next_low k probe h) (omega (arith, next_high k probe h, reach_high k probe h));
       less = omega arith;
     })
     (λ missed. next_step k probe h)

@@ -20,7 +20,7 @@ use Rattle.work_ranges.specs.WorkRanges.{search_in_range}
 use Rattle.plain_list.specs.PlainList.{Rows, Entry, absent, present, entry_of}
 use Rattle.plain_list.proofs.RowLaws.{Steady}
 use Rattle.plain_list.proofs.IndexLaws.{Lowest}
-use Rattle.plain_list.proofs.Agreement.{Agrees, shown-row, row-shown}
+use Rattle.plain_list.proofs.Agreement.{Agrees, shown_row, row_shown}
 use Rattle.search.specs.declared.Searched.{Searched}
 use Rattle.search.specs.declared.Searched.TheVariants.{Going, Answered}
 use Rattle.search.specs.declared.SearchAnswer.{SearchAnswer}
@@ -61,9 +61,9 @@ Knows F m k q rows (Answered answer) = Ended F m k q rows answer
 
 module _ (F : Type 0) (m k reach : ℕ) (counts slots : List ℕ) (rows : Rows) (agrees : Agrees m k reach counts slots rows) (q : ℕ) (low : 1 ≤ q) (missed : entry_of q rows ≡ absent → F) where
   -- the reach covers every row
-  first-ahead : (entry : Entry) → entry_of q rows ≡ entry → F ⊎ Ahead m k q rows 1 reach
-  first-ahead absent e = inl (missed e)
-  first-ahead (present value place) e =
+  first_ahead : (entry : Entry) → entry_of q rows ≡ entry → F ⊎ Ahead m k q rows 1 reach
+  first_ahead absent e = inl (missed e)
+  first_ahead (present value place) e =
       let h = agrees.held q value place e in
       inr
       (record {
@@ -81,20 +81,20 @@ module _ (F : Type 0) (m k reach : ℕ) (counts slots : List ℕ) (rows : Rows) 
   none_ahead from to h (inl f) = f
   none_ahead from to h (inr a) = absurd (omega (arith, a.low, a.high))
 
-  first-knows : Knows F m k q rows (first_probe reach)
+  first_knows : Knows F m k q rows (first_probe reach)
   unfolding first_probe
-  first-knows =
+  first_knows =
       cond_holds (Knows F m k q rows) _ _ _
-      (λ none. let z = eqb-true reach 0 none in none_ahead 1 reach (omega arith) (first-ahead (entry_of q rows) refl))
-      (λ some. first-ahead (entry_of q rows) refl)
+      (λ none. let z = eqb-true reach 0 none in none_ahead 1 reach (omega arith) (first_ahead (entry_of q rows) refl))
+      (λ some. first_ahead (entry_of q rows) refl)
 
-  abbrev word-of : Probe → ℕ
-  word-of probe = get_or slots (position_of m q probe.next) 0
+  abbrev word_of_lem : Probe → ℕ
+  word_of_lem probe = get_or slots (position_of m q probe.next) 0
 
   -- the slot read shows the point: it is the point's row, and at its lowest index if the row was ahead
-  hit-lowest : (probe : Probe) (value : ℕ) → 1 ≤ probe.next → entry_of q rows ≡ present value (position_of m q probe.next) → F ⊎ Ahead m k q rows probe.next probe.reach → F ⊎ Lowest m k q (position_of m q probe.next) probe.next
-  hit-lowest probe value from e (inl f) = inl f
-  hit-lowest probe value from e (inr a) =
+  hit_lowest : (probe : Probe) (value : ℕ) → 1 ≤ probe.next → entry_of q rows ≡ present value (position_of m q probe.next) → F ⊎ Ahead m k q rows probe.next probe.reach → F ⊎ Lowest m k q (position_of m q probe.next) probe.next
+  hit_lowest probe value from e (inl f) = inl f
+  hit_lowest probe value from e (inr a) =
       let f = a.found in
       let same : a.place ≡ position_of m q probe.next = cc in
       let no_less : ¬ (probe.next < a.index) = λ y. a.lowest.first probe.next from y (sym same) in
@@ -104,10 +104,10 @@ module _ (F : Type 0) (m k reach : ℕ) (counts slots : List ℕ) (rows : Rows) 
       (subst (λ (y : ℕ). Lowest m k q y a.index) same a.lowest))
 
   -- the slot read does not show the point: its row is not there
-  passed : (probe : Probe) → (point_of (word-of probe) ≡ q → ⊥) → F ⊎ Ahead m k q rows probe.next probe.reach → F ⊎ Ahead m k q rows (probe.next + 1) probe.reach
+  passed : (probe : Probe) → (point_of (word_of_lem probe) ≡ q → ⊥) → F ⊎ Ahead m k q rows probe.next probe.reach → F ⊎ Ahead m k q rows (probe.next + 1) probe.reach
   passed probe other (inl f) = inl f
   passed probe other (inr a) =
-      let shown = row-shown m k reach counts slots rows agrees q a.value a.place a.found in
+      let shown = row_shown m k reach counts slots rows agrees q a.value a.place a.found in
       let apart : a.index ≢ probe.next = λ y. other (subst (λ (u : ℕ). point_of (get_or slots u 0) ≡ q) (sym a.lowest.at ∙ ap (position_of m q) y) shown) in
       inr
       (record {
@@ -120,28 +120,28 @@ module _ (F : Type 0) (m k reach : ℕ) (counts slots : List ℕ) (rows : Rows) 
         high = a.high;
       })
 
-  next-knows : (probe : Probe) → F ⊎ Ahead m k q rows (probe.next + 1) probe.reach → Knows F m k q rows (next_probe probe)
+  next_knows : (probe : Probe) → F ⊎ Ahead m k q rows (probe.next + 1) probe.reach → Knows F m k q rows (next_probe probe)
   unfolding next_probe
-  next-knows probe ahead =
+  next_knows probe ahead =
       cond_holds (Knows F m k q rows) _ _ _ (λ more. ahead)
       (λ last. let past = ltb-false probe.next probe.reach last in none_ahead (probe.next + 1) probe.reach (omega arith) ahead)
 
   -- a position that shows the point ends the search there; any other leads to the next, an empty one too: "removals leave holes"
-  probe-knows : (probe : Probe) → 1 ≤ probe.next → F ⊎ Ahead m k q rows probe.next probe.reach → Knows F m k q rows (probe_advance q probe (word-of probe))
+  probe_knows : (probe : Probe) → 1 ≤ probe.next → F ⊎ Ahead m k q rows probe.next probe.reach → Knows F m k q rows (probe_advance q probe (word_of_lem probe))
   unfolding probe_advance holds_point
-  probe-knows probe from ahead =
-      cond_holds (Knows F m k q rows) (holds_point q (word-of probe)) _ _
+  probe_knows probe from ahead =
+      cond_holds (Knows F m k q rows) (holds_point q (word_of_lem probe)) _ _
       (λ hit.
       let inside = position_below m q probe.next agrees.some_slot in
-      let here = shown-row m k reach counts slots rows agrees q (position_of m q probe.next) low inside (eqb-true (point_of (word-of probe)) q hit) in
-      record { found = here; lowest = hit-lowest probe (value_of (word-of probe)) from here ahead })
-      (λ other. next-knows probe (passed probe (eqb-false (point_of (word-of probe)) q other) ahead))
+      let here = shown_row m k reach counts slots rows agrees q (position_of m q probe.next) low inside (eqb-true (point_of (word_of_lem probe)) q hit) in
+      record { found = here; lowest = hit_lowest probe (value_of (word_of_lem probe)) from here ahead })
+      (λ other. next_knows probe (passed probe (eqb-false (point_of (word_of_lem probe)) q other) ahead))
 
   -- a search's own step
-  pub search-knows : (search : Search) → search_in_range k search ≡ true → Trail F m k q rows search → Knows F m k q rows (search_advance reach q search (word_read slots (search_access m q search)))
+  pub search_knows : (search : Search) → search_in_range k search ≡ true → Trail F m k q rows search → Knows F m k q rows (search_advance reach q search (word_read slots (search_access m q search)))
   unfolding search_advance search_access word_read
-  search-knows Unread fits t = first-knows
-  search-knows (Probing probe) fits t = probe-knows probe (next_low k probe fits) t
+  search_knows Unread fits t = first_knows
+  search_knows (Probing probe) fits t = probe_knows probe (next_low k probe fits) t
 
 -- a call of the others: a point that stays keeps its place, and one that goes is absent after the call
 module _ (F F' : Type 0) (m k q : ℕ) (rows after : Rows) (steady : Steady rows after) (still : F → F') (missed : entry_of q after ≡ absent → F') where
@@ -159,7 +159,7 @@ module _ (F F' : Type 0) (m k q : ℕ) (rows after : Rows) (steady : Steady rows
         high = a.high;
       })
 
-  pub trail-after : (search : Search) → Trail F m k q rows search → Trail F' m k q after search
-  trail-after Unread t = tt
-  trail-after (Probing probe) (inl f) = inl (still f)
-  trail-after (Probing probe) (inr a) = ahead_after probe.next probe.reach a (entry_of q after) refl
+  pub trail_after : (search : Search) → Trail F m k q rows search → Trail F' m k q after search
+  trail_after Unread t = tt
+  trail_after (Probing probe) (inl f) = inl (still f)
+  trail_after (Probing probe) (inr a) = ahead_after probe.next probe.reach a (entry_of q after) refl

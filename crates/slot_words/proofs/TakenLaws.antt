@@ -17,13 +17,13 @@ module _ (slots : List ℕ) (i : ℕ) where
   unfolding taken_slots
   taken_more h e = rw (add-one i, drop-cons slots i 0 h, e)
 
-  pub taken-same : i < length slots → eqb (get_or slots i 0) 0 ≡ true → taken_slots (drop i slots) ≡ taken_slots (drop (i + 1) slots)
+  pub taken_same : i < length slots → eqb (get_or slots i 0) 0 ≡ true → taken_slots (drop i slots) ≡ taken_slots (drop (i + 1) slots)
   unfolding taken_slots
-  taken-same h e = rw (add-one i, drop-cons slots i 0 h, e)
+  taken_same h e = rw (add-one i, drop-cons slots i 0 h, e)
 
-  pub taken-end : length slots ≤ i → taken_slots (drop i slots) ≡ 0
+  pub taken_end : length slots ≤ i → taken_slots (drop i slots) ≡ 0
   unfolding taken_slots
-  taken-end h = rw (drop_of_length-le slots h)
+  taken_end h = rw (drop_of_length-le slots h)
 
 -- a word in the place of another
 pub taken_replaced : (slots : List ℕ) (i word : ℕ) → word ≢ 0 → i < length slots → get_or slots i 0 ≢ 0 → taken_slots (set slots i word) ≡ taken_slots slots

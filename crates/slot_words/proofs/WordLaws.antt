@@ -6,8 +6,8 @@ use native.Mathlib.Omega.{arith}
 use Rattle.slot_words.specs.Word.{point_of, value_of, word_of}
 
 module _ (point value : ℕ) where
-  pub word-point : value < 4294967296 → point_of (word_of point value) ≡ point
-  word-point h = omega arith
+  pub word_point : value < 4294967296 → point_of (word_of point value) ≡ point
+  word_point h = omega arith
 
   pub word_value : value < 4294967296 → value_of (word_of point value) ≡ value
   word_value h = omega arith
@@ -15,5 +15,5 @@ module _ (point value : ℕ) where
   pub word_some : 1 ≤ point → word_of point value ≢ 0
   word_some h = omega arith
 
-  pub word-tells : (point' value' : ℕ) → value < 4294967296 → value' < 4294967296 → word_of point value ≡ word_of point' value' → point ≡ point'
-  word-tells point' value' h h' e = omega arith
+  pub word_tells : (point' value' : ℕ) → value < 4294967296 → value' < 4294967296 → word_of point value ≡ word_of point' value' → point ≡ point'
+  word_tells point' value' h h' e = omega arith

@@ -14,7 +14,7 @@ use Rattle.conditions.specs.Conditions.{both, within}
 use Rattle.conditions.proofs.ConditionLaws.{within_low, within_high, is_within}
 use Rattle.record.specs.declared.Record.{Record}
 use Rattle.record.specs.Parts.{numbered, with_numbered, count_of, with_reach, with_counts, with_count}
-use Rattle.record.proofs.Numbered.{replaced-past, replaced-same, replaced-other}
+use Rattle.record.proofs.Numbered.{replaced_past, replaced_same, replaced_other}
 use Rattle.answers.specs.Answers.{Progress, continues, finishes, step_answer, Outcome, outcome}
 use Rattle.whole_operations.specs.declared.changes.Changes.{Changes}
 use Rattle.whole_operations.specs.declared.changes.Written.{Written}
@@ -22,16 +22,16 @@ use Rattle.whole_operations.specs.Whole.{recounted_up_to, recounted, changes_bet
 use Rattle.whole_operations.specs.WholeFacts.{changes_made}
 
 module _ (before after : Record) where
-  none-recounted : ((i : ℕ) → count_of before i ≡ count_of after i) → (n : ℕ) → recounted_up_to before after n ≡ 0
+  none_recounted : ((i : ℕ) → count_of before i ≡ count_of after i) → (n : ℕ) → recounted_up_to before after n ≡ 0
   unfolding recounted_up_to
-  none-recounted same zero = refl
-  none-recounted same (suc i) = rw (eq-eqb _ _ (same (suc i))) (none-recounted same i)
+  none_recounted same zero = refl
+  none_recounted same (suc i) = rw (eq-eqb _ _ (same (suc i))) (none_recounted same i)
 
   module _ (index : ℕ) (low : 1 ≤ index) (other : count_of before index ≢ count_of after index) (same : (i : ℕ) → i ≢ index → count_of before i ≡ count_of after i) where
-    one-recounted : (n : ℕ) → index ≤ n → recounted_up_to before after n ≡ index
+    one_recounted : (n : ℕ) → index ≤ n → recounted_up_to before after n ≡ index
     unfolding recounted_up_to
-    one-recounted zero h = absurd (omega arith)
-    one-recounted (suc i) h = go (eqb (suc i) index) refl (λ (l : index ≤ i). one-recounted i l)
+    one_recounted zero h = absurd (omega arith)
+    one_recounted (suc i) h = go (eqb (suc i) index) refl (λ (l : index ≤ i). one_recounted i l)
       where
         go : (b : Bool) → eqb (suc i) index ≡ b → (index ≤ i → recounted_up_to before after i ≡ index) → recounted_up_to before after (suc i) ≡ index
         go true e below =
@@ -48,7 +48,7 @@ outside counts (suc i) count all e = go (leb (suc i) 64) refl
   where
     go : (b : Bool) → leb (suc i) 64 ≡ b → with_numbered counts (suc i) count ≡ counts
     go true f = absurd (false≢true (sym e ∙ is_within 1 (suc i) 64 (omega arith) (leb-true (suc i) 64 f)))
-    go false f = replaced-past counts (suc i) count (omega (arith, leb-false (suc i) 64 f))
+    go false f = replaced_past counts (suc i) count (omega (arith, leb-false (suc i) 64 f))
 
 itself : (counts : List ℕ) (index count : ℕ) → numbered counts index 0 ≡ count → with_numbered counts index count ≡ counts
 unfolding numbered with_numbered
@@ -60,7 +60,7 @@ module _ (panel : Record) (reach index count : ℕ) (all : length panel.counts �
   stored = record { reach = reach; index = index; count = count }
 
   record Made (made : Changes) : Type 0 where
-    pub leaves-same : leaves panel made ≡ leaves panel stored
+    pub leaves_same : leaves panel made ≡ leaves panel stored
     pub between : made ≡ changes_between panel (leaves panel stored)
 
   uncounted : with_numbered panel.counts index count ≡ panel.counts → Made (record { reach = reach; index = 0; count = 0 })
@@ -69,20 +69,20 @@ module _ (panel : Record) (reach index count : ℕ) (all : length panel.counts �
       let plain = with_reach panel reach in
       let kept = ap (with_counts plain) (sym same) in
       record {
-        leaves-same = kept;
+        leaves_same = kept;
         between =
-            ap (λ (n : ℕ). record { reach = reach; index = n; count = count_of plain n }) (sym (none-recounted panel plain (λ i. refl) 64))
+            ap (λ (n : ℕ). record { reach = reach; index = n; count = count_of plain n }) (sym (none_recounted panel plain (λ i. refl) 64))
             ∙ ap (changes_between panel) kept;
       }
 
-  counts-one : 1 ≤ index → index ≤ 64 → count_of panel index ≢ count → Made stored
+  counts_one : 1 ≤ index → index ≤ 64 → count_of panel index ≢ count → Made stored
   unfolding leaves changes_between recounted with_reach with_count with_counts count_of
-  counts-one low high other =
+  counts_one low high other =
       let after = leaves panel stored in
-      let now = replaced-same panel.counts index count 0 low (omega arith) in
-      let found = one-recounted panel after index low (λ e. other (e ∙ now)) (λ i h. sym (replaced-other panel.counts index count 0 i h)) 64 high in
+      let now = replaced_same panel.counts index count 0 low (omega arith) in
+      let found = one_recounted panel after index low (λ e. other (e ∙ now)) (λ i h. sym (replaced_other panel.counts index count 0 i h)) 64 high in
       record {
-        leaves-same = refl;
+        leaves_same = refl;
         between =
             ap (λ (n : ℕ). record { reach = reach; index = index; count = n }) (sym now)
             ∙ ap (λ (n : ℕ). record { reach = reach; index = n; count = count_of after n }) (sym found);
@@ -93,7 +93,7 @@ module _ (panel : Record) (reach index count : ℕ) (all : length panel.counts �
   made = go (within 1 index 64) refl (eqb (count_of panel index) count) refl
     where
       go : (inside : Bool) → within 1 index 64 ≡ inside → (same : Bool) → eqb (count_of panel index) count ≡ same → Made (cond (both inside (not same)) stored (record { reach = reach; index = 0; count = 0 }))
-      go true w false e = counts-one (within_low 1 index 64 w) (within_high 1 index 64 w) (eqb-false (count_of panel index) count e)
+      go true w false e = counts_one (within_low 1 index 64 w) (within_high 1 index 64 w) (eqb-false (count_of panel index) count e)
       go true w true e = uncounted (itself panel.counts index count (eqb-true (count_of panel index) count e))
       go false w same e = uncounted (outside panel.counts index count all w)
 
@@ -108,7 +108,7 @@ module _ (panel : Record) (changes : Changes) (before : ℕ) (stored : List ℕ)
   hands_back all was handed same =
       let m = made panel changes.reach changes.index changes.count all in
       let numbers = handed.1 ∙ ap (λ (n : ℕ). changes_made changes.reach changes.index n changes.count) was in
-      let left = handed.2 panel ∙ ap (leaves panel) numbers ∙ m.leaves-same in (
+      let left = handed.2 panel ∙ ap (leaves panel) numbers ∙ m.leaves_same in (
         (λ j. outcome (left j) stored (handed.0 j)) ∙ same,
         numbers ∙ m.between ∙ ended_changes panel (leaves panel changes) stored steps progress ∙ ap (changes_of panel) same,
       )

@@ -22,7 +22,7 @@ use Rattle.reader_starts.specs.Starts.{lookup_refusal}
 use Rattle.whole_operations.specs.declared.searching.SearchEnd.{SearchEnd}
 use Rattle.whole_operations.specs.Whole.{whole_lookup}
 use Rattle.whole_operations.specs.WholeFacts.{end_after, search_end, word_at, LookupTook, found_at, not_found}
-use Rattle.whole_operations.proofs.WholeLookup.{looks-up}
+use Rattle.whole_operations.proofs.WholeLookup.{looks_up}
 
 module _ (slots : List ℕ) (m point reach : ℕ) where
   -- no position below this index holds the point
@@ -66,9 +66,9 @@ module _ (slots : List ℕ) (m point reach : ℕ) where
           subst (λ (steps : ℕ). LookupTook slots m point reach (ended (completed (lookup_ending Unknown) steps))) (sym (omega arith))
           (not_found (λ j from to. below j from (omega arith)))
 
-  whole-took : Took (search_end slots m point reach (suc reach) 0 Unread)
+  whole_took : Took (search_end slots m point reach (suc reach) 0 Unread)
   unfolding search_end end_after search_advance first_probe lookup_ending NoneBelow
-  whole-took = go (eqb reach 0) refl
+  whole_took = go (eqb reach 0) refl
     where
       go : (b : Bool) → eqb reach 0 ≡ b → Took (end_after (search_end slots m point reach reach 1) 1 (cond b (Answered Unknown) (Going (Probing (record { reach = reach; next = 1 })))))
       go true e =
@@ -79,4 +79,4 @@ module _ (slots : List ℕ) (m point reach : ℕ) where
 -- a whole lookup that is carried out, on the slots as they are
 pub lookup_took : (panel : Record) (slots : List ℕ) (reader point : ℕ) → length panel.readers ≡ 16 → lookup_refusal (length slots) panel reader point ≡ 0 → LookupTook slots panel.m point panel.reach (whole_lookup panel slots reader point).answer
 lookup_took panel slots reader point sixteen allowed =
-    subst (λ (now : Outcome). LookupTook slots panel.m point panel.reach now.answer) (looks-up panel slots reader point sixteen allowed) (whole-took slots panel.m point panel.reach)
+    subst (λ (now : Outcome). LookupTook slots panel.m point panel.reach now.answer) (looks_up panel slots reader point sixteen allowed) (whole_took slots panel.m point panel.reach)

@@ -81,17 +81,17 @@ module _ (put : Put) where
       go true = raising put index
       go false = counting index _
 
-  put-adds : (k reach slot : ℕ) (stage : PutStage) (word : ℕ) → Adds (put_stage_advance k reach slot put stage word)
+  put_adds : (k reach slot : ℕ) (stage : PutStage) (word : ℕ) → Adds (put_stage_advance k reach slot put stage word)
   unfolding put_stage_advance
-  put-adds k reach slot (PutStage-as-Searching search) word = searched (search_advance reach put.point search word)
-  put-adds k reach slot (Scanning index) word = scanned k index word
-  put-adds k reach slot (PutStage-as-Found place) word = ending _
-  put-adds k reach slot (Chosen index) word = takes reach slot index
+  put_adds k reach slot (PutStage-as-Searching search) word = searched (search_advance reach put.point search word)
+  put_adds k reach slot (Scanning index) word = scanned k index word
+  put_adds k reach slot (PutStage-as-Found place) word = ending _
+  put_adds k reach slot (Chosen index) word = takes reach slot index
 
 pub step_adds : (panel : Record) (work : WriterWork) (slot word : ℕ) → puts work ≡ true → Adds (writer_advance panel work slot word)
 unfolding work_advance puts put_advance
 step_adds panel Idle slot word e = going Idle refl
-step_adds panel (Putting put) slot word e = put-adds put panel.k panel.reach slot put.stage word
+step_adds panel (Putting put) slot word e = put_adds put panel.k panel.reach slot put.stage word
 step_adds panel (Changing change) slot word e = absurd (false≢true e)
 step_adds panel (Removing removal) slot word e = absurd (false≢true e)
 
@@ -113,9 +113,9 @@ counted_puts k (Removing removal) e = absurd (false≢true e)
 
 pub step_kept : (panel : Record) (reach index next-reach next-index : ℕ) (slots stored : List ℕ) (work made : WriterWork) (answer : Answer) (access : WriterAccess) (slot word steps : ℕ) (effect : WriterEffect) → index ≡ 0 → Adds effect → AtWork (outcome (with_writer (counted (with_reach panel reach) index) work) slots answer) → is_underway answer ≡ true → made ≡ writer_counted panel.k work → access ≡ writer_access (with_reach panel reach) made → slot ≡ slot_stored access → word ≡ access_read slots access → stored ≡ slots_after slots access → effect ≡ writer_advance (with_reach panel reach) made slot word → steps ≡ steps_made made → next-reach ≡ reach_after reach effect.update → next-index ≡ index_counted effect.update → writer_step (outcome (with_writer (counted (with_reach panel reach) index) work) slots answer) ≡ outcome (with_writer (counted (with_reach panel next-reach) next-index) effect.work) stored (step_answer steps effect.progress)
 unfolding with_reach
-step_kept panel reach index next-reach next-index slots stored work made answer access slot word steps effect none adds p e same-made same-access same-slot same_word same_slots same_effect same-steps same-reach same_index =
+step_kept panel reach index next-reach next-index slots stored work made answer access slot word steps effect none adds p e same-made same_access same-slot same_word same_slots same_effect same-steps same-reach same_index =
     let held = with_reach panel reach in
     let kept = sym (none_counted held index none) in
-    step_beside (counted held index) _ slots stored work made answer access slot word steps effect p e (same-made ∙ ap (λ (r : Record). writer_counted r.k work) kept) (same-access ∙ ap (λ (r : Record). writer_access r made) kept) same-slot same_word same_slots
+    step_beside (counted held index) _ slots stored work made answer access slot word steps effect p e (same-made ∙ ap (λ (r : Record). writer_counted r.k work) kept) (same_access ∙ ap (λ (r : Record). writer_access r made) kept) same-slot same_word same_slots
     (same_effect ∙ ap (λ (r : Record). writer_advance r made slot word) kept) same-steps
     ((λ j. counted (with_reach panel (same-reach j)) (same_index j)) ∙ sym (adds.adds held) ∙ ap (λ (r : Record). updated r effect.update) kept)

@@ -96,18 +96,18 @@ module _ (panel held : Record) (index : ℕ) (same : held ≡ with_count (with_r
         go true = record { same = uncounts i; kind = refl; none = λ h. absurd (false≢true h) }
         go false = record { same = uncounts i; kind = refl; none = λ h. absurd (false≢true h) }
 
-  by-stage : (removal : Removal) (stage : RemovalStage) (word : ℕ) → (is_before stage ≡ true → index ≡ 0) → Keeps (removal_stage_advance held.k held.reach held.counts removal stage word)
+  by_stage : (removal : Removal) (stage : RemovalStage) (word : ℕ) → (is_before stage ≡ true → index ≡ 0) → Keeps (removal_stage_advance held.k held.reach held.counts removal stage word)
   unfolding removal_stage_advance is_before
-  by-stage removal (Searching search) word none = searched (none refl) removal (search_advance held.reach removal.point search word)
-  by-stage removal (RemovalStage-as-Found place) word none = empties (none refl) removal place.index
-  by-stage removal Lowering word none = lowers
+  by_stage removal (Searching search) word none = searched (none refl) removal (search_advance held.reach removal.point search word)
+  by_stage removal (RemovalStage-as-Found place) word none = empties (none refl) removal place.index
+  by_stage removal Lowering word none = lowers
 
 pub step_keeps : (panel held : Record) (index : ℕ) (work : WriterWork) (slot word : ℕ) → Kept panel held index work → is_writer_idle work ≡ false → Kept panel (updated held (writer_advance held work slot word).update) (index_uncounted index (writer_advance held work slot word).update) (writer_advance held work slot word).work
 unfolding work_advance removes is_to_remove removal_advance
 step_keeps panel held index Idle slot word kept e = absurd (false≢true (sym e))
 step_keeps panel held index (Putting put) slot word kept e = absurd (false≢true kept.kind)
 step_keeps panel held index (Changing change) slot word kept e = absurd (false≢true kept.kind)
-step_keeps panel held index (Removing removal) slot word kept e = by-stage panel held index kept.same removal removal.stage word kept.none
+step_keeps panel held index (Removing removal) slot word kept e = by_stage panel held index kept.same removal removal.stage word kept.none
 
 -- counting a step leaves what is kept
 pub counted_kept : (panel held : Record) (index k : ℕ) (work : WriterWork) → Kept panel held index work → Kept panel held index (writer_counted k work)

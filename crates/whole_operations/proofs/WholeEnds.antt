@@ -13,12 +13,12 @@ use Rattle.counting.specs.Steps.{step_bound}
 use Rattle.answers.specs.Answers.{started, refused, is_underway, Outcome, outcome, unless_refused}
 use Rattle.whole_operations.specs.Whole.{until_ended, writer_step, whole_put, whole_removal}
 use Rattle.search.proofs.SearchLaws.{search_left}
-use Rattle.whole_operations.proofs.WholeLaws.{budget-suffices, has_ended}
+use Rattle.whole_operations.proofs.WholeLaws.{budget_suffices, has_ended}
 use Rattle.record.specs.Idle.{is_writer_idle}
 use Rattle.effects.proofs.EffectLaws.{put_search_left, put_left, removal_left, writer_left}
 use Rattle.writer.specs.Starts.{start_refusal, start_writer, put_begun, removal_begun, start_put, start_removal}
 use Rattle.writer.specs.WriterFacts.{Begun}
-use Rattle.writer.proofs.WriterLaws.{AtWork, works, allowed, run_at_work, run-less, put-begins, removal-begins}
+use Rattle.writer.proofs.WriterLaws.{AtWork, works, allowed, run_at_work, run_less, put_begins, removal_begins}
 
 -- the steps that are left, at most
 left : Outcome → ℕ
@@ -30,7 +30,7 @@ takes_one now p e =
     let working = works now p e in
     let same = sym (allowed now.panel now.slots p.fits working) in (
       transport (λ j. AtWork (same j)) (run_at_work now.panel now.slots p.fits working),
-      transport (λ j. left (same j) + 1 ≤ left now) (run-less now.panel now.slots p.fits working),
+      transport (λ j. left (same j) + 1 ≤ left now) (run_less now.panel now.slots p.fits working),
     )
 
 pub stays_at_work : (now : Outcome) → AtWork now → is_underway now.answer ≡ true → AtWork (writer_step now)
@@ -41,7 +41,7 @@ module _ (panel : Record) (slots : List ℕ) (point budget : ℕ) (work : Writer
   ends_by : (n : ℕ) → Begun (unless_refused n (outcome panel slots) (outcome (with_writer panel work) slots started)) → is_underway (until_ended writer_step budget (unless_refused n (outcome panel slots) (outcome (with_writer panel work) slots started))).answer ≡ false
   unfolding unless_refused with_writer left
   ends_by zero begun =
-      budget-suffices writer_step AtWork left takes_one budget (outcome (with_writer panel work) slots started)
+      budget_suffices writer_step AtWork left takes_one budget (outcome (with_writer panel work) slots started)
       (record { fits = begun.fits refl; busy = ap not (sym working) }) enough
   ends_by (suc n) begun = ap (λ (after : Outcome). is_underway after.answer) (has_ended writer_step budget (outcome panel slots (refused (suc n))) refl)
 
@@ -50,14 +50,14 @@ module _ (panel : Record) (slots : List ℕ) (point budget : ℕ) (work : Writer
   ends begun = ends_by (start_refusal (length slots) panel point) begun
 
 module _ (panel : Record) (slots : List ℕ) (point : ℕ) where
-  pub whole-put-ends : (value : ℕ) → is_underway (whole_put panel slots point value).answer ≡ false
+  pub whole_put_ends : (value : ℕ) → is_underway (whole_put panel slots point value).answer ≡ false
   unfolding whole_put start_put writer_left put_left put_search_left
-  whole-put-ends value =
+  whole_put_ends value =
       ends panel slots point (step_bound Put panel.k) (put_begun point value) (omega arith) refl
-      (put-begins panel slots point value)
+      (put_begins panel slots point value)
 
-  pub whole-removal-ends : is_underway (whole_removal panel slots point).answer ≡ false
+  pub whole_removal_ends : is_underway (whole_removal panel slots point).answer ≡ false
   unfolding whole_removal start_removal writer_left removal_left search_left
-  whole-removal-ends =
+  whole_removal_ends =
       ends panel slots point (step_bound Removal panel.k) (removal_begun point) (omega arith) refl
-      (removal-begins panel slots point)
+      (removal_begins panel slots point)

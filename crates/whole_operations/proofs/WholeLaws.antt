@@ -18,26 +18,26 @@ still true left left_After e h = refl
 still false left left_After e h = absurd (omega arith)
 
 module _ (step : Outcome → Outcome) where
-  pub one-step : (n : ℕ) (now : Outcome) → 1 ≤ n → is_underway now.answer ≡ true → until_ended step n now ≡ until_ended step (n - 1) (step now)
+  pub one_step : (n : ℕ) (now : Outcome) → 1 ≤ n → is_underway now.answer ≡ true → until_ended step n now ≡ until_ended step (n - 1) (step now)
   unfolding until_ended
-  one-step zero now h e = absurd (omega arith)
-  one-step (suc n) now h e = let same : n ≡ suc n - 1 = omega arith in rw e (ap (λ (left : ℕ). until_ended step left (step now)) same)
+  one_step zero now h e = absurd (omega arith)
+  one_step (suc n) now h e = let same : n ≡ suc n - 1 = omega arith in rw e (ap (λ (left : ℕ). until_ended step left (step now)) same)
 
   pub has_ended : (n : ℕ) (now : Outcome) → is_underway now.answer ≡ false → until_ended step n now ≡ now
   unfolding until_ended
   has_ended zero now e = refl
   has_ended (suc n) now e = rw e
 
-  pub used-up : (n : ℕ) (now : Outcome) → n ≡ 0 → until_ended step n now ≡ now
+  pub used_up : (n : ℕ) (now : Outcome) → n ≡ 0 → until_ended step n now ≡ now
   unfolding until_ended
-  used-up zero now e = refl
-  used-up (suc n) now e = absurd (omega arith)
+  used_up zero now e = refl
+  used_up (suc n) now e = absurd (omega arith)
 
   -- an operation that is underway and ends takes a step
-  pub some-budget : (n : ℕ) (now : Outcome) → is_underway now.answer ≡ true → is_underway (until_ended step n now).answer ≡ false → 1 ≤ n
+  pub some_budget : (n : ℕ) (now : Outcome) → is_underway now.answer ≡ true → is_underway (until_ended step n now).answer ≡ false → 1 ≤ n
   unfolding until_ended
-  some-budget zero now e ends = absurd (false≢true (sym ends ∙ e))
-  some-budget (suc n) now e ends = omega arith
+  some_budget zero now e ends = absurd (false≢true (sym ends ∙ e))
+  some_budget (suc n) now e ends = omega arith
 
   -- a step more in the budget changes nothing where the operation has ended before
   pub one_more : (n : ℕ) (now : Outcome) → is_underway (until_ended step n now).answer ≡ false → until_ended step (suc n) now ≡ until_ended step n now
@@ -51,7 +51,7 @@ module _ (step : Outcome → Outcome) where
 
   -- only the step counts, not what the call before it answered
   pub same_step : (n : ℕ) (a b : Outcome) → 1 ≤ n → is_underway a.answer ≡ true → is_underway b.answer ≡ true → step a ≡ step b → until_ended step n a ≡ until_ended step n b
-  same_step n a b h e f same = one-step n a h e ∙ ap (until_ended step (n - 1)) same ∙ sym (one-step n b h f)
+  same_step n a b h e f same = one_step n a h e ∙ ap (until_ended step (n - 1)) same ∙ sym (one_step n b h f)
 
   -- a loop on its way from the start: P holds, and what is left to do comes to the same as the whole
   pub record OnTheWay (P : Outcome → Type 0) (start : Outcome) (budget left : ℕ) (now : Outcome) : Type 0 where
@@ -60,40 +60,40 @@ module _ (step : Outcome → Outcome) where
     pub same : until_ended step left now ≡ until_ended step budget start
 
   -- a loop that sets out: no step is taken where the operation has ended already
-  pub sets-out : (P : Outcome → Type 0) (start : Outcome) (budget left : ℕ) → P start → left ≡ cond (is_underway start.answer) budget 0 → OnTheWay P start budget left start
-  sets-out P start budget left p e = go (is_underway start.answer) refl e
+  pub sets_out : (P : Outcome → Type 0) (start : Outcome) (budget left : ℕ) → P start → left ≡ cond (is_underway start.answer) budget 0 → OnTheWay P start budget left start
+  sets_out P start budget left p e = go (is_underway start.answer) refl e
     where
       go : (b : Bool) → is_underway start.answer ≡ b → left ≡ cond b budget 0 → OnTheWay P start budget left start
       go true underway f = record { holds = p; goes = λ h. underway; same = ap (λ (n : ℕ). until_ended step n start) f }
       go false ended f =
-          record { holds = p; goes = λ h. absurd (omega arith); same = used-up left start f ∙ sym (has_ended budget start ended) }
+          record { holds = p; goes = λ h. absurd (omega arith); same = used_up left start f ∙ sym (has_ended budget start ended) }
 
   module _ (P : Outcome → Type 0) (keeps : (now : Outcome) → P now → is_underway now.answer ≡ true → P (step now)) (start : Outcome) (budget left : ℕ) (now : Outcome) (way : OnTheWay P start budget left now) where
     pub arrives : left ≡ 0 → now ≡ until_ended step budget start
-    arrives e = sym (used-up left now e) ∙ way.same
+    arrives e = sym (used_up left now e) ∙ way.same
 
     module _ (more : 1 ≤ left) (after : Outcome) (takes : step now ≡ after) where
       after_holds : P after
       after_holds = transport (λ j. P (takes j)) (keeps now way.holds (way.goes more))
 
       after_same : until_ended step (left - 1) after ≡ until_ended step budget start
-      after_same = sym (ap (until_ended step (left - 1)) takes) ∙ sym (one-step left now more (way.goes more)) ∙ way.same
+      after_same = sym (ap (until_ended step (left - 1)) takes) ∙ sym (one_step left now more (way.goes more)) ∙ way.same
 
       pub steps_on : (left_After : ℕ) → left_After ≡ cond (is_underway after.answer) (left - 1) 0 → OnTheWay P start budget left_After after
       steps_on left_After e =
-          let out = sets-out P after (left - 1) left_After after_holds e in
+          let out = sets_out P after (left - 1) left_After after_holds e in
           record { holds = out.holds; goes = out.goes; same = out.same ∙ after_same }
 
   -- a budget suffices that is not below the steps left: P holds of every outcome on the way, and each step takes one of the steps that are left
   module _ (P : Outcome → Type 0) (left : Outcome → ℕ) (takes_one : (now : Outcome) → P now → is_underway now.answer ≡ true → P (step now) × (left (step now) + 1 ≤ left now)) where
-    pub budget-suffices : (n : ℕ) (now : Outcome) → P now → left now ≤ n → is_underway (until_ended step n now).answer ≡ false
+    pub budget_suffices : (n : ℕ) (now : Outcome) → P now → left now ≤ n → is_underway (until_ended step n now).answer ≡ false
     unfolding until_ended
-    budget-suffices zero now p h = go (is_underway now.answer) refl
+    budget_suffices zero now p h = go (is_underway now.answer) refl
       where
         go : (b : Bool) → is_underway now.answer ≡ b → is_underway now.answer ≡ false
         go true e = absurd (omega (arith, (takes_one now p e).1))
         go false e = e
-    budget-suffices (suc n) now p h = go (is_underway now.answer) refl (λ q. budget-suffices n (step now) q)
+    budget_suffices (suc n) now p h = go (is_underway now.answer) refl (λ q. budget_suffices n (step now) q)
       where
         go : (b : Bool) → is_underway now.answer ≡ b → (P (step now) → left (step now) ≤ n → is_underway (until_ended step n (step now)).answer ≡ false) → is_underway (cond b (until_ended step n (step now)) now).answer ≡ false
         go true e more = let one = takes_one now p e in more one.0 (omega (arith, one.1))

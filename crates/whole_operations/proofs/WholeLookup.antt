@@ -25,20 +25,20 @@ use Rattle.counting.specs.Steps.{step_bound, lookup_counted, reader_counted}
 use Rattle.counting.proofs.StepLaws.{counted_one, reader_counted_idle}
 use Rattle.work_ranges.specs.WorkRanges.{work_in_range, search_in_range}
 use Rattle.record_ranges.specs.Ranges.{in_range}
-use Rattle.record_ranges.proofs.Laws.{fields, sizes-in-range, reach_high, work-in-range, with-work-in-range}
+use Rattle.record_ranges.proofs.Laws.{fields, sizes_in_range_lem, reach_high, work_in_range_lem, with_work_in_range}
 use Rattle.reader_starts.specs.Starts.{new_lookup, lookup_work_refusal, lookup_refusal, start_reader, start_lookup}
 use Rattle.whole_operations.specs.declared.searching.SearchEnd.{SearchEnd}
 use Rattle.whole_operations.specs.Whole.{until_ended, reader_step, whole_lookup}
 use Rattle.reader_starts.proofs.ReaderLaws.{steps_left, OneLess, steps_on, begun_fits, none_left}
 use Rattle.whole_operations.specs.WholeFacts.{search_end}
-use Rattle.whole_operations.proofs.WholeLaws.{budget-suffices, has_ended, same_step}
-use Rattle.whole_operations.proofs.WholeSearch.{standing, search-comes}
+use Rattle.whole_operations.proofs.WholeLaws.{budget_suffices, has_ended, same_step}
+use Rattle.whole_operations.proofs.WholeSearch.{standing, search_comes}
 use Rattle.search.specs.declared.Searched.{Searched}
 use Rattle.search.specs.declared.Searched.TheVariants.{Going, Answered}
 use Rattle.search.specs.declared.SearchAnswer.{SearchAnswer}
 use Rattle.search.specs.Access.{word_read}
 use Rattle.answers.specs.Answers.{completed, Answer, started, underway, refused, walked, walked_last, is_underway, Outcome, outcome, unless_refused, ended}
-use Rattle.answers.proofs.AnswerLaws.{allowed-call}
+use Rattle.answers.proofs.AnswerLaws.{allowed_call}
 use Rattle.search.specs.Search.{search_access, search_advance}
 use Rattle.record.specs.Idle.{is_reader_idle}
 use Rattle.reader_step.specs.Reader.{reader_access, ReaderEffect, lookup_ending, lookup_effect, lookup_advance, walk_advance, reader_advance, work_refusal, step_refusal, work_runs, after_step, reader_runs, step_reader}
@@ -100,14 +100,14 @@ module _ (reader : ℕ) (panel : Record) (slots : List ℕ) (fits : in_range (le
   one : OneLess panel.m panel.k (steps_left panel.m panel.k (work_of panel reader)) effect.work
   unfolding effect work_runs
   one =
-      steps_on panel.m panel.k panel.reach (work_of panel reader) _ (sizes-in-range (length slots) panel fits).k_high (fields (length slots) panel fits).reach_fits
-      (work-in-range (length slots) panel reader fits)
+      steps_on panel.m panel.k panel.reach (work_of panel reader) _ (sizes_in_range_lem (length slots) panel fits).k_high (fields (length slots) panel fits).reach_fits
+      (work_in_range_lem (length slots) panel reader fits)
 
-  at-work : AtWork reader (outcome (with_work panel reader effect.work) slots effect.answer)
+  at_work : AtWork reader (outcome (with_work panel reader effect.work) slots effect.answer)
   unfolding with_work with_readers effect work_runs
-  at-work =
+  at_work =
       record {
-        fits = with-work-in-range (length slots) panel fits reader effect.work one.is_in_range;
+        fits = with_work_in_range (length slots) panel fits reader effect.work one.is_in_range;
         known = known;
         held = omega (arith, length-set panel.readers reader (record { work = effect.work }));
         busy = reader_idle panel.m panel.reach (reader_counted panel.k (work_of panel reader)) _ (reader_counted_idle panel.k (work_of panel reader) ∙ works) ∙ ap (λ (w : ReaderWork). not (is_reader_idle w)) (sym replaced);
@@ -117,14 +117,14 @@ module _ (reader : ℕ) (panel : Record) (slots : List ℕ) (fits : in_range (le
   unfolding left with_work with_readers
   less =
       let after = ap (steps_left panel.m panel.k) replaced in
-      omega (arith, after, one.less, some_left panel.m panel.k (work_of panel reader) (work-in-range (length slots) panel reader fits) works)
+      omega (arith, after, one.less, some_left panel.m panel.k (work_of panel reader) (work_in_range_lem (length slots) panel reader fits) works)
 
 takes_one : (reader : ℕ) (now : Outcome) → AtWork reader now → is_underway now.answer ≡ true → AtWork reader (reader_step reader now) × (left reader (reader_step reader now) + 1 ≤ left reader now)
 unfolding reader_step left
 takes_one reader now p e =
     let works = not-true (is_reader_idle (work_of now.panel reader)) (sym p.busy ∙ e) in
     let same = sym (allowed reader now.panel now.slots p.fits p.known p.held works) in (
-      transport (λ j. AtWork reader (same j)) (at-work reader now.panel now.slots p.fits p.known p.held works),
+      transport (λ j. AtWork reader (same j)) (at_work reader now.panel now.slots p.fits p.known p.held works),
       transport (λ j. left reader (same j) + 1 ≤ left reader now) (less reader now.panel now.slots p.fits p.known p.held works),
     )
 
@@ -179,20 +179,20 @@ module _ (panel : Record) (slots : List ℕ) (reader point : ℕ) (e : lookup_re
         idle_work (work_of panel reader) (not-false (is_reader_idle (work_of panel reader)) after-4.0),
       )
 
-  known-reader : reader ≤ 15
-  known-reader = judged.1
+  known_reader : reader ≤ 15
+  known_reader = judged.1
 
-  started-fits : in_range (length slots) (with_work panel reader (new_lookup point)) ≡ true
+  started_fits : in_range (length slots) (with_work panel reader (new_lookup point)) ≡ true
   unfolding work_in_range
-  started-fits = with-work-in-range (length slots) panel judged.0 reader _ (begun_fits panel.k point judged.2)
+  started_fits = with_work_in_range (length slots) panel judged.0 reader _ (begun_fits panel.k point judged.2)
 
   begins : length panel.readers ≡ 16 → AtWork reader (outcome (with_work panel reader work) slots started)
   unfolding work
-  begins sixteen = given_work_lem panel slots reader work started started-fits known-reader sixteen refl refl
+  begins sixteen = given_work_lem panel slots reader work started started_fits known_reader sixteen refl refl
 
-  begins-with : length panel.readers ≡ 16 → left reader (outcome (with_work panel reader work) slots started) ≤ step_bound Kind-as-Lookup panel.k
+  begins_with : length panel.readers ≡ 16 → left reader (outcome (with_work panel reader work) slots started) ≤ step_bound Kind-as-Lookup panel.k
   unfolding left with_work with_readers work steps_left search_left
-  begins-with sixteen = omega (arith, ap (steps_left panel.m panel.k) (work_replaced panel reader work (omega (arith, known-reader))))
+  begins_with sixteen = omega (arith, ap (steps_left panel.m panel.k) (work_replaced panel reader work (omega (arith, known_reader))))
 
 -- "ending on the point's slot with its value, else after the r-th with 7"
 pub whole_lookup_ends : (panel : Record) (slots : List ℕ) (reader point : ℕ) → length panel.readers ≡ 16 → is_underway (whole_lookup panel slots reader point).answer ≡ false
@@ -201,9 +201,9 @@ whole_lookup_ends panel slots reader point h = go (lookup_refusal (length slots)
   where
     go : (n : ℕ) → lookup_refusal (length slots) panel reader point ≡ n → is_underway (until_ended (reader_step reader) (step_bound Kind-as-Lookup panel.k) (unless_refused n (outcome panel slots) (outcome (with_work panel reader (new_lookup point)) slots started))).answer ≡ false
     go zero e =
-        budget-suffices (reader_step reader) (AtWork reader) (left reader) (takes_one reader) (step_bound Kind-as-Lookup panel.k)
+        budget_suffices (reader_step reader) (AtWork reader) (left reader) (takes_one reader) (step_bound Kind-as-Lookup panel.k)
         (outcome (with_work panel reader (work panel slots reader point e)) slots started) (begins panel slots reader point e h)
-        (begins-with panel slots reader point e h)
+        (begins_with panel slots reader point e h)
     go (suc n) e = ap (λ (after : Outcome). is_underway after.answer) (has_ended (reader_step reader) (step_bound Kind-as-Lookup panel.k) (outcome panel slots (refused (suc n))) refl)
 
 -- ---- a whole lookup from its search: the reader is idle again, so the record is what it was
@@ -218,25 +218,25 @@ module _ (panel : Record) (slots : List ℕ) (reader point : ℕ) (sixteen : len
   abbrev answered : ℕ → SearchAnswer → Outcome
   answered steps answer = outcome (with_work panel reader Idle) slots (ended (completed (lookup_ending answer) steps))
 
-  as-it-stands : (steps : ℕ) (search : Search) (stands : Searched) → outcome (with_work panel reader (lookup_effect (looking steps search) stands).work) slots (lookup_effect (looking steps search) stands).answer ≡ standing (going steps) (answered steps) stands
+  as_it_stands : (steps : ℕ) (search : Search) (stands : Searched) → outcome (with_work panel reader (lookup_effect (looking steps search) stands).work) slots (lookup_effect (looking steps search) stands).answer ≡ standing (going steps) (answered steps) stands
   unfolding lookup_effect
-  as-it-stands steps search (Going next) = refl
-  as-it-stands steps search (Answered answer) = refl
+  as_it_stands steps search (Going next) = refl
+  as_it_stands steps search (Answered answer) = refl
 
   few : panel.k ≤ 64
-  few = (sizes-in-range (length slots) panel (judged panel slots reader point e).0).k_high
+  few = (sizes_in_range_lem (length slots) panel (judged panel slots reader point e).0).k_high
 
   -- a step of the search counts as one
-  counts-one : (steps : ℕ) (search : Search) → steps ≤ panel.k → lookup_counted panel.k (looking steps search) ≡ looking (steps + 1) search
+  counts_one : (steps : ℕ) (search : Search) → steps ≤ panel.k → lookup_counted panel.k (looking steps search) ≡ looking (steps + 1) search
   unfolding lookup_counted
-  counts-one steps search h = ap (λ (n : ℕ). looking n search) (counted_one Kind-as-Lookup panel.k steps few (omega arith))
+  counts_one steps search h = ap (λ (n : ℕ). looking n search) (counted_one Kind-as-Lookup panel.k steps few (omega arith))
 
   takes : (steps : ℕ) (search : Search) → steps ≤ panel.k → AtWork reader (going steps search) → reader_step reader (going steps search) ≡ standing (going (steps + 1)) (answered (steps + 1)) (search_advance panel.reach point search (word_read slots (search_access panel.m point search)))
   unfolding work_runs reader_counted reader_advance lookup_advance reader_access
   takes steps search h p =
       step_beside panel slots reader (LookingUp (looking steps search)) underway p refl
-      ∙ ap (λ (lookup : Lookup). outcome (with_work panel reader (lookup_effect_lem lookup).work) slots (lookup_effect_lem lookup).answer) (counts-one steps search h)
-      ∙ as-it-stands (steps + 1) search (search_advance panel.reach point search (word_read slots (search_access panel.m point search)))
+      ∙ ap (λ (lookup : Lookup). outcome (with_work panel reader (lookup_effect_lem lookup).work) slots (lookup_effect_lem lookup).answer) (counts_one steps search h)
+      ∙ as_it_stands (steps + 1) search (search_advance panel.reach point search (word_read slots (search_access panel.m point search)))
     where
       lookup_effect_lem : Lookup → ReaderEffect
       lookup_effect_lem lookup = lookup_effect lookup (search_advance panel.reach lookup.point lookup.search (word_read slots (search_access panel.m lookup.point lookup.search)))
@@ -247,23 +247,23 @@ module _ (panel : Record) (slots : List ℕ) (reader point : ℕ) (sixteen : len
   same_start =
       let begun = outcome (with_work panel reader (new_lookup point)) slots started in
       same_step (reader_step reader) (step_bound Kind-as-Lookup panel.k) (going 0 Unread) begun (omega arith) refl refl refl
-      ∙ ap (until_ended (reader_step reader) (step_bound Kind-as-Lookup panel.k)) (sym (ap (λ (n : ℕ). unless_refused n (outcome panel slots) begun) e ∙ allowed-call (outcome panel slots) begun))
+      ∙ ap (until_ended (reader_step reader) (step_bound Kind-as-Lookup panel.k)) (sym (ap (λ (n : ℕ). unless_refused n (outcome panel slots) begun) e ∙ allowed_call (outcome panel slots) begun))
 
   -- what the search comes to, as the lookup's answer
   abbrev answer_of : SearchEnd → Answer
   answer_of found = ended (completed (lookup_ending found.answer) found.steps)
 
-  pub looks-up : outcome panel slots (answer_of (search_end slots panel.m point panel.reach (suc panel.reach) 0 Unread)) ≡ whole_lookup panel slots reader point
+  pub looks_up : outcome panel slots (answer_of (search_end slots panel.m point panel.reach (suc panel.reach) 0 Unread)) ≡ whole_lookup panel slots reader point
   unfolding search_in_range search_left
-  looks-up =
+  looks_up =
       let found = search_end slots panel.m point panel.reach (suc panel.reach) 0 Unread in
       let bound = step_bound Kind-as-Lookup panel.k in
       let reach-low = (fields (length slots) panel (judged panel slots reader point e).0).reach_fits in
-      let at-work = given_work_lem panel slots reader (new_lookup point) underway (started-fits panel slots reader point e) (known-reader panel slots reader point e) sixteen refl refl in
+      let at_work = given_work_lem panel slots reader (new_lookup point) underway (started_fits panel slots reader point e) (known_reader panel slots reader point e) sixteen refl refl in
       let ends = ap (λ (now : Outcome). is_underway now.answer) same_start ∙ whole_lookup_ends panel slots reader point sixteen in
       let comes =
-      search-comes (reader_step reader) (AtWork reader) slots panel.m point panel.reach panel.k (stays_at_work reader) going answered (λ steps search. refl) takes
-      (suc panel.reach) 0 Unread bound at-work refl (omega arith) (omega arith) ends in
+      search_comes (reader_step reader) (AtWork reader) slots panel.m point panel.reach panel.k (stays_at_work reader) going answered (λ steps search. refl) takes
+      (suc panel.reach) 0 Unread bound at_work refl (omega arith) (omega arith) ends in
       ap (λ (after : Record). outcome after slots (answer_of found)) (sym (same_work panel reader Idle (judged panel slots reader point e).3))
       ∙ sym (has_ended (reader_step reader) bound (answered found.steps found.answer) refl)
       ∙ sym comes.same

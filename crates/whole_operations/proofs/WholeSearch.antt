@@ -21,7 +21,7 @@ use Rattle.search.proofs.SearchLaws.{search_left, some_left, searched_left, sear
 use Rattle.whole_operations.specs.declared.searching.SearchEnd.{SearchEnd}
 use Rattle.whole_operations.specs.Whole.{until_ended}
 use Rattle.whole_operations.specs.WholeFacts.{end_after, search_end}
-use Rattle.whole_operations.proofs.WholeLaws.{one-step, one_more, some-budget}
+use Rattle.whole_operations.proofs.WholeLaws.{one_step, one_more, some_budget}
 
 -- an operation as its search stands after a step
 abbrev pub standing : (Search → Outcome) → (SearchAnswer → Outcome) → Searched → Outcome
@@ -39,26 +39,26 @@ module _ (step : Outcome → Outcome) (P : Outcome → Type 0) where
     end n steps search = search_end slots m point reach n steps search
 
     -- the operation after the step that answers its search
-    abbrev answeredAt : SearchEnd → Outcome
-    answeredAt found = answered found.steps found.answer
+    abbrev answered_at : SearchEnd → Outcome
+    answered_at found = answered found.steps found.answer
 
     -- a step more in the budget, where what is left ends without it
-    with-one : (budget : ℕ) (before next : Outcome) (after : Outcome) → is_underway before.answer ≡ true → step before ≡ next → is_underway (until_ended step (suc budget) before).answer ≡ false → Comes budget next after → Comes (suc budget) before after
-    with-one budget before next after underway e ends comes =
+    with_one : (budget : ℕ) (before next : Outcome) (after : Outcome) → is_underway before.answer ≡ true → step before ≡ next → is_underway (until_ended step (suc budget) before).answer ≡ false → Comes budget next after → Comes (suc budget) before after
+    with_one budget before next after underway e ends comes =
         let one_less : suc budget - 1 ≡ budget = omega arith in
-        let on = one-step step (suc budget) before (omega arith) underway ∙ ap (λ (n : ℕ). until_ended step n (step before)) one_less ∙ ap (until_ended step budget) e ∙ comes.same in
+        let on = one_step step (suc budget) before (omega arith) underway ∙ ap (λ (n : ℕ). until_ended step n (step before)) one_less ∙ ap (until_ended step budget) e ∙ comes.same in
         record {
           holds = comes.holds;
           same = on ∙ sym (one_more step budget after (ap (λ (now : Outcome). is_underway now.answer) (sym on) ∙ ends));
         }
 
-    pub search-comes : (n steps : ℕ) (search : Search) (budget : ℕ) → P (going steps search) → search_in_range reach search ≡ true → search_left reach search ≤ n → steps + n ≤ top + 1 → is_underway (until_ended step budget (going steps search)).answer ≡ false → Comes budget (going steps search) (answeredAt (end n steps search))
+    pub search_comes : (n steps : ℕ) (search : Search) (budget : ℕ) → P (going steps search) → search_in_range reach search ≡ true → search_left reach search ≤ n → steps + n ≤ top + 1 → is_underway (until_ended step budget (going steps search)).answer ≡ false → Comes budget (going steps search) (answered_at (end n steps search))
     unfolding search_end end_after searched_in_range searched_left
-    search-comes zero steps search budget p fits h within ends = absurd (omega (arith, some_left reach search))
-    search-comes (suc n) steps search zero p fits h within ends = absurd (omega (arith, some-budget step zero (going steps search) (goes steps search) ends))
-    search-comes (suc n) steps search (suc budget) p fits h within ends =
+    search_comes zero steps search budget p fits h within ends = absurd (omega (arith, some_left reach search))
+    search_comes (suc n) steps search zero p fits h within ends = absurd (omega (arith, some_budget step zero (going steps search) (goes steps search) ends))
+    search_comes (suc n) steps search (suc budget) p fits h within ends =
         go (search_advance reach point search word) refl (search_step reach reach point search word (omega arith) fits)
-        (λ next. search-comes n (steps + 1) next budget)
+        (λ next. search_comes n (steps + 1) next budget)
       where
         word : ℕ
         word = word_read slots (search_access m point search)
@@ -72,20 +72,20 @@ module _ (step : Outcome → Outcome) (P : Outcome → Type 0) where
         held : (stands : Searched) → search_advance reach point search word ≡ stands → P (stood stands)
         held stands e = transport (λ j. P (after stands e j)) (keeps (going steps search) p (goes steps search))
 
-        left-ends : (stands : Searched) → search_advance reach point search word ≡ stands → is_underway (until_ended step budget (stood stands)).answer ≡ false
-        left-ends stands e =
+        left_ends : (stands : Searched) → search_advance reach point search word ≡ stands → is_underway (until_ended step budget (stood stands)).answer ≡ false
+        left_ends stands e =
             let one_less : budget ≡ suc budget - 1 = omega arith in
             ap (λ (now : Outcome). is_underway (until_ended step budget now).answer) (sym (after stands e))
             ∙ ap (λ (now : Outcome). is_underway now.answer)
-            (ap (λ (n : ℕ). until_ended step n (step (going steps search))) one_less ∙ sym (one-step step (suc budget) (going steps search) (omega arith) (goes steps search)))
+            (ap (λ (n : ℕ). until_ended step n (step (going steps search))) one_less ∙ sym (one_step step (suc budget) (going steps search) (omega arith) (goes steps search)))
             ∙ ends
 
-        go : (stands : Searched) → search_advance reach point search word ≡ stands → OneStep reach (search_left reach search) stands → ((next : Search) → P (going (steps + 1) next) → search_in_range reach next ≡ true → search_left reach next ≤ n → steps + 1 + n ≤ top + 1 → is_underway (until_ended step budget (going (steps + 1) next)).answer ≡ false → Comes budget (going (steps + 1) next) (answeredAt (end n (steps + 1) next))) → Comes (suc budget) (going steps search) (answeredAt (end_after (end n (steps + 1)) (steps + 1) stands))
+        go : (stands : Searched) → search_advance reach point search word ≡ stands → OneStep reach (search_left reach search) stands → ((next : Search) → P (going (steps + 1) next) → search_in_range reach next ≡ true → search_left reach next ≤ n → steps + 1 + n ≤ top + 1 → is_underway (until_ended step budget (going (steps + 1) next)).answer ≡ false → Comes budget (going (steps + 1) next) (answered_at (end n (steps + 1) next))) → Comes (suc budget) (going steps search) (answered_at (end_after (end n (steps + 1)) (steps + 1) stands))
         go (Going next) e one more =
-            with-one budget (going steps search) (going (steps + 1) next) _ (goes steps search) (after (Going next) e) ends
-            (more next (held (Going next) e) one.fits (omega (arith, one.less)) (omega arith) (left-ends (Going next) e))
+            with_one budget (going steps search) (going (steps + 1) next) _ (goes steps search) (after (Going next) e) ends
+            (more next (held (Going next) e) one.fits (omega (arith, one.less)) (omega arith) (left_ends (Going next) e))
         go (Answered answer) e one more =
-            with-one budget (going steps search) (answered (steps + 1) answer) _ (goes steps search) (after (Answered answer) e) ends
+            with_one budget (going steps search) (answered (steps + 1) answer) _ (goes steps search) (after (Answered answer) e) ends
             (record { holds = held (Answered answer) e; same = refl })
 
 -- ---- the loop that searches: from this index on, with as many steps made, the search comes to the same
@@ -106,9 +106,9 @@ module _ (slots : List ℕ) (m point reach : ℕ) where
     pub none : reach < next → ended Unknown next ≡ whole
 
   -- "read the reach r; then positions 1 to r"
-  pub first-index : FromIndex 1
+  pub first_index : FromIndex 1
   unfolding search_end end_after search_advance first_probe
-  first-index = go (eqb reach 0) refl
+  first_index = go (eqb reach 0) refl
     where
       go : (b : Bool) → eqb reach 0 ≡ b → FromIndex 1
       go true e =
@@ -128,9 +128,9 @@ module _ (slots : List ℕ) (m point reach : ℕ) where
   AfterProbe next (Going search) = FromIndex (next + 1)
   AfterProbe next (Answered answer) = ended answer (next + 1) ≡ whole
 
-  pub after-probe : (next : ℕ) → FromIndex next → next ≤ reach → AfterProbe next (search_advance reach point (probing next) (word_read slots (search_access m point (probing next))))
+  pub after_probe : (next : ℕ) → FromIndex next → next ≤ reach → AfterProbe next (search_advance reach point (probing next) (word_read slots (search_access m point (probing next))))
   unfolding search_advance holds_point probe_advance next_probe search_end end_after
-  after-probe next way h = go (eqb (point_of word) point) (ltb next reach) refl same
+  after_probe next way h = go (eqb (point_of word) point) (ltb next reach) refl same
     where
       word : ℕ
       word = word_read slots (search_access m point (probing next))

@@ -17,7 +17,7 @@ use Rattle.slot_words.specs.Points.{valid_point}
 use Rattle.record_ranges.specs.Ranges.{in_range}
 use Rattle.record_ranges.proofs.Laws.{reach_high}
 use Rattle.answers.specs.Answers.{Answer, started, underway, refused, is_underway, Outcome, outcome, unless_refused}
-use Rattle.answers.proofs.AnswerLaws.{refused-call, allowed-call}
+use Rattle.answers.proofs.AnswerLaws.{refused_call, allowed_call}
 use Rattle.record.specs.Idle.{is_writer_idle}
 use Rattle.writer.specs.Starts.{work_start_refusal, start_refusal, start_writer}
 use Rattle.writer.specs.WriterFacts.{Begun}
@@ -35,16 +35,16 @@ module _ (panel : Record) (slots : List ℕ) (point : ℕ) (work : WriterWork) (
   begun : Outcome
   begun = outcome (with_writer panel work) slots started
 
-  pub run-refused : (refusal : Refusal) → start_refusal (length slots) panel point ≡ number_of refusal → outcome panel slots (refused (number_of refusal)) ≡ until_ended writer_step budget (start_writer panel slots point work)
+  pub run_refused : (refusal : Refusal) → start_refusal (length slots) panel point ≡ number_of refusal → outcome panel slots (refused (number_of refusal)) ≡ until_ended writer_step budget (start_writer panel slots point work)
   unfolding start_writer begun
-  run-refused refusal e =
-      let stopped = ap (λ (n : ℕ). unless_refused n (outcome panel slots) begun) e ∙ refused-call (outcome panel slots) begun refusal in
+  run_refused refusal e =
+      let stopped = ap (λ (n : ℕ). unless_refused n (outcome panel slots) begun) e ∙ refused_call (outcome panel slots) begun refusal in
       sym (has_ended writer_step budget (outcome panel slots (refused (number_of refusal))) refl) ∙ ap (until_ended writer_step budget) (sym stopped)
 
   module _ (e : start_refusal (length slots) panel point ≡ 0) where
     allowed : start_writer panel slots point work ≡ begun
     unfolding start_writer begun
-    allowed = ap (λ (n : ℕ). unless_refused n (outcome panel slots) begun) e ∙ allowed-call (outcome panel slots) begun
+    allowed = ap (λ (n : ℕ). unless_refused n (outcome panel slots) begun) e ∙ allowed_call (outcome panel slots) begun
 
     judged : (in_range (length slots) panel ≡ true) × (panel.writer.work ≡ Idle)
     unfolding start_refusal work_start_refusal
@@ -63,9 +63,9 @@ module _ (panel : Record) (slots : List ℕ) (point : ℕ) (work : WriterWork) (
     unfolding begun
     begun_fits h = (subst Begun allowed h).fits refl
 
-    pub begun-at-work : Begun (start_writer panel slots point work) → is_writer_idle work ≡ false → AtWork (outcome (with_writer panel work) slots underway)
+    pub begun_at_work : Begun (start_writer panel slots point work) → is_writer_idle work ≡ false → AtWork (outcome (with_writer panel work) slots underway)
     unfolding with_writer
-    begun-at-work h working = record { fits = begun_fits h; busy = ap not (sym working) }
+    begun_at_work h working = record { fits = begun_fits h; busy = ap not (sym working) }
 
     -- whether the call before said "started" or "underway" makes no difference
     same_start : 1 ≤ budget → until_ended writer_step budget (outcome (with_writer panel work) slots underway) ≡ until_ended writer_step budget (start_writer panel slots point work)
@@ -74,12 +74,12 @@ module _ (panel : Record) (slots : List ℕ) (point : ℕ) (work : WriterWork) (
         same_step writer_step budget (outcome (with_writer panel work) slots underway) begun h refl refl refl
         ∙ ap (until_ended writer_step budget) (sym allowed)
 
-    pub begun-ends : 1 ≤ budget → is_underway (until_ended writer_step budget (start_writer panel slots point work)).answer ≡ false → is_underway (until_ended writer_step budget (outcome (with_writer panel work) slots underway)).answer ≡ false
-    begun-ends h ends = ap (λ (now : Outcome). is_underway now.answer) (same_start h) ∙ ends
+    pub begun_ends : 1 ≤ budget → is_underway (until_ended writer_step budget (start_writer panel slots point work)).answer ≡ false → is_underway (until_ended writer_step budget (outcome (with_writer panel work) slots underway)).answer ≡ false
+    begun_ends h ends = ap (λ (now : Outcome). is_underway now.answer) (same_start h) ∙ ends
 
-    pub run-ended : (after : Record) (last : WriterWork) (stored : List ℕ) (answer : Answer) → after.writer.work ≡ panel.writer.work → 1 ≤ budget → is_underway answer ≡ not (is_writer_idle last) → is_underway (until_ended writer_step budget (start_writer panel slots point work)).answer ≡ false → outcome (with_writer after last) stored answer ≡ until_ended writer_step budget (outcome (with_writer panel work) slots underway) → outcome after stored answer ≡ until_ended writer_step budget (start_writer panel slots point work)
+    pub run_ended : (after : Record) (last : WriterWork) (stored : List ℕ) (answer : Answer) → after.writer.work ≡ panel.writer.work → 1 ≤ budget → is_underway answer ≡ not (is_writer_idle last) → is_underway (until_ended writer_step budget (start_writer panel slots point work)).answer ≡ false → outcome (with_writer after last) stored answer ≡ until_ended writer_step budget (outcome (with_writer panel work) slots underway) → outcome after stored answer ≡ until_ended writer_step budget (start_writer panel slots point work)
     unfolding with_writer
-    run-ended after last stored answer same_writer h busy ends ran =
+    run_ended after last stored answer same_writer h busy ends ran =
         let same = ran ∙ same_start h in
         let idle = idle_work last (not-false (is_writer_idle last) (sym busy ∙ ap (λ (now : Outcome). is_underway now.answer) same ∙ ends)) in
         ap (λ (w : WriterWork). outcome (with_writer after w) stored answer) (same_writer ∙ judged.1 ∙ sym idle) ∙ same

@@ -38,13 +38,13 @@ module _ (panel : Record) (old : WriterWork) where
 -- a step of the record with this work put back, from what its three parts gave for the record without it and for the work with the step counted
 pub step_beside : (panel after : Record) (slots stored : List ℕ) (work made : WriterWork) (answer : Answer) (access : WriterAccess) (slot word steps : ℕ) (effect : WriterEffect) → AtWork (outcome (with_writer panel work) slots answer) → is_underway answer ≡ true → made ≡ writer_counted panel.k work → access ≡ writer_access panel made → slot ≡ slot_stored access → word ≡ access_read slots access → stored ≡ slots_after slots access → effect ≡ writer_advance panel made slot word → steps ≡ steps_made made → after ≡ updated panel effect.update → writer_step (outcome (with_writer panel work) slots answer) ≡ outcome (with_writer after effect.work) stored (step_answer steps effect.progress)
 unfolding writer_step with_writer writer_runs after_step
-step_beside panel after slots stored work made answer access slot word steps effect p e same-made same-access same-slot same_word same_slots same_effect same-steps same_update =
-    let from-access = same-slot ∙ ap slot_stored same-access in
-    let read = same_word ∙ ap (access_read slots) same-access in
+step_beside panel after slots stored work made answer access slot word steps effect p e same-made same_access same-slot same_word same_slots same_effect same-steps same_update =
+    let from-access = same-slot ∙ ap slot_stored same_access in
+    let read = same_word ∙ ap (access_read slots) same_access in
     let effects = same_effect ∙ (λ j. writer_advance panel made (from-access j) (read j)) in
     allowed (with_writer panel work) slots p.fits (works (outcome (with_writer panel work) slots answer) p e)
     ∙ runs panel work slots (writer_counted panel.k work)
     ∙ ap (writer_runs panel slots) (sym same-made)
     ∙ sym
     ((λ j. outcome (with_writer (same_update j) effect.work) (same_slots j) (step_answer (same-steps j) effect.progress))
-    ∙ (λ j. outcome (with_writer (updated panel (effects j).update) (effects j).work) (slots_after slots (same-access j)) (step_answer (steps_made made) (effects j).progress)))
+    ∙ (λ j. outcome (with_writer (updated panel (effects j).update) (effects j).work) (slots_after slots (same_access j)) (step_answer (steps_made made) (effects j).progress)))

@@ -21,7 +21,7 @@ use Rattle.counting.specs.declared.steps.OperationKind.TheVariants.{Put as Kind-
 use Rattle.counting.specs.Steps.{put_counted, change_counted, removal_counted, writer_counted, steps_made}
 use Rattle.counting.proofs.StepLaws.{counted_one}
 use Rattle.work_ranges.specs.WorkRanges.{search_in_range}
-use Rattle.record_ranges.proofs.Laws.{fields, sizes-in-range}
+use Rattle.record_ranges.proofs.Laws.{fields, sizes_in_range_lem}
 use Rattle.answers.specs.Answers.{Answer, step_answer, underway, is_underway, Outcome, outcome}
 use Rattle.search.specs.declared.Searched.{Searched}
 use Rattle.search.specs.declared.Searched.TheVariants.{Going, Answered}
@@ -46,8 +46,8 @@ use Rattle.whole_operations.specs.declared.searching.SearchEnd.{SearchEnd}
 use Rattle.whole_operations.specs.Whole.{until_ended, writer_step}
 use Rattle.whole_operations.specs.WholeFacts.{puts, removes, search_end}
 use Rattle.whole_operations.proofs.WholeEnds.{stays_at_work}
-use Rattle.whole_operations.proofs.WholeSearch.{standing, Comes, search-comes}
-use Rattle.whole_operations.proofs.WholeWriting.{begun-at-work, begun-ends, run-ended}
+use Rattle.whole_operations.proofs.WholeSearch.{standing, Comes, search_comes}
+use Rattle.whole_operations.proofs.WholeWriting.{begun_at_work, begun_ends, run_ended}
 use Rattle.whole_operations.proofs.WorkBeside.{step_beside}
 
 -- the point that an operation is about
@@ -154,10 +154,10 @@ module _ (panel : Record) (slots : List ℕ) (work : WriterWork) (working : is_w
   update_leaves steps (Going search) = refl
   update_leaves steps (Answered answer) = sym (ap (updated panel) (leaves steps answer))
 
-  as-it-stands : (steps : ℕ) (stands : Searched) → outcome (with_writer panel (effect_of work steps stands).work) slots (step_answer steps (effect_of work steps stands).progress) ≡ standing (going steps) (answered steps) stands
+  as_it_stands : (steps : ℕ) (stands : Searched) → outcome (with_writer panel (effect_of work steps stands).work) slots (step_answer steps (effect_of work steps stands).progress) ≡ standing (going steps) (answered steps) stands
   unfolding going_on
-  as-it-stands steps (Going search) = refl
-  as-it-stands steps (Answered answer) = refl
+  as_it_stands steps (Going search) = refl
+  as_it_stands steps (Answered answer) = refl
 
   takes : panel.k ≤ 64 → (steps : ℕ) (search : Search) → steps ≤ panel.k → AtWork (going steps search) → writer_step (going steps search) ≡ standing (going (steps + 1)) (answered (steps + 1)) (search_advance panel.reach (point_of_work work) search (word_read slots (search_access panel.m (point_of_work work) search)))
   unfolding slot_stored access_read slots_after
@@ -167,20 +167,20 @@ module _ (panel : Record) (slots : List ℕ) (work : WriterWork) (working : is_w
       let made = searching_by work (steps + 1) search in
       step_beside panel panel slots slots (searching_by work steps search) made underway (Read (search_access panel.m (point_of_work work) search)) 0 word (steps + 1) (effect_of work (steps + 1) stands) p refl
       (counted_of panel.k work steps search few h) (sym (access_of panel work (steps + 1) search working)) refl refl refl (sym (advance_of panel work (steps + 1) search 0 word working)) (sym (made_of work (steps + 1) search working)) (update_leaves (steps + 1) stands)
-      ∙ as-it-stands (steps + 1) stands
+      ∙ as_it_stands (steps + 1) stands
 
   -- the operation after its search has come to this
-  abbrev answeredAt : SearchEnd → Outcome
-  answeredAt found = answered found.steps found.answer
+  abbrev answered_at : SearchEnd → Outcome
+  answered_at found = answered found.steps found.answer
 
-  search-runs : (budget : ℕ) → searching_by work 0 Unread ≡ work → AtWork (outcome (with_writer panel work) slots underway) → is_underway (until_ended writer_step budget (outcome (with_writer panel work) slots underway)).answer ≡ false → Comes writer_step AtWork budget (outcome (with_writer panel work) slots underway) (answeredAt (search_end slots panel.m (point_of_work work) panel.reach (suc panel.reach) 0 Unread))
+  search_runs : (budget : ℕ) → searching_by work 0 Unread ≡ work → AtWork (outcome (with_writer panel work) slots underway) → is_underway (until_ended writer_step budget (outcome (with_writer panel work) slots underway)).answer ≡ false → Comes writer_step AtWork budget (outcome (with_writer panel work) slots underway) (answered_at (search_end slots panel.m (point_of_work work) panel.reach (suc panel.reach) 0 Unread))
   unfolding search_in_range search_left with_writer
-  search-runs budget unread p ends =
+  search_runs budget unread p ends =
       let begins = ap (λ (w : WriterWork). outcome (with_writer panel w) slots underway) unread in
-      let few = (sizes-in-range (length slots) (with_writer panel work) p.fits).k_high in
+      let few = (sizes_in_range_lem (length slots) (with_writer panel work) p.fits).k_high in
       let reach-low = (fields (length slots) (with_writer panel work) p.fits).reach_fits in
-      subst (λ (now : Outcome). Comes writer_step AtWork budget now (answeredAt (search_end slots panel.m (point_of_work work) panel.reach (suc panel.reach) 0 Unread))) begins
-      (search-comes writer_step AtWork slots panel.m (point_of_work work) panel.reach panel.k stays_at_work going answered (λ steps search. refl) (takes few) (suc panel.reach) 0 Unread budget
+      subst (λ (now : Outcome). Comes writer_step AtWork budget now (answered_at (search_end slots panel.m (point_of_work work) panel.reach (suc panel.reach) 0 Unread))) begins
+      (search_comes writer_step AtWork slots panel.m (point_of_work work) panel.reach panel.k stays_at_work going answered (λ steps search. refl) (takes few) (suc panel.reach) 0 Unread budget
       (subst AtWork (sym begins) p) refl (omega arith) (omega arith)
       (ap (λ (now : Outcome). is_underway (until_ended writer_step budget now).answer) begins ∙ ends))
 
@@ -189,26 +189,26 @@ module _ (panel : Record) (slots : List ℕ) (point : ℕ) (work : WriterWork) (
   abbrev found : ℕ → SearchEnd
   found q = search_end slots panel.m q panel.reach (suc panel.reach) 0 Unread
 
-  comes : Comes writer_step AtWork budget (outcome (with_writer panel work) slots underway) (answeredAt panel slots work working leaves (found point))
+  comes : Comes writer_step AtWork budget (outcome (with_writer panel work) slots underway) (answered_at panel slots work working leaves (found point))
   comes =
-      subst (λ (q : ℕ). Comes writer_step AtWork budget (outcome (with_writer panel work) slots underway) (answeredAt panel slots work working leaves (found q))) about
-      (search-runs panel slots work working leaves budget unread (begun-at-work panel slots point work budget e begun working)
-      (begun-ends panel slots point work budget e some ends))
+      subst (λ (q : ℕ). Comes writer_step AtWork budget (outcome (with_writer panel work) slots underway) (answered_at panel slots work working leaves (found q))) about
+      (search_runs panel slots work working leaves budget unread (begun_at_work panel slots point work budget e begun working)
+      (begun_ends panel slots point work budget e some ends))
 
   -- the effect that the answer leads to, and the steps made by then
   module _ (steps : ℕ) (effect : WriterEffect) (count : steps ≡ (found point).steps) (same : effect ≡ answered_by work (found point).steps (found point).answer) where
     abbrev reached : ℕ → WriterEffect → Outcome
     reached n m = outcome (with_writer panel m.work) slots (step_answer n m.progress)
 
-    pub effect-at-work : AtWork (reached steps effect)
-    effect-at-work = transport (λ j. AtWork (reached (sym count j) (sym same j))) comes.holds
+    pub effect_at_work : AtWork (reached steps effect)
+    effect_at_work = transport (λ j. AtWork (reached (sym count j) (sym same j))) comes.holds
 
     -- the steps that are left, within the same budget
     module _ (given : ℕ) (as-bound : given ≡ budget) where
-      pub whole-ended : (after : Record) (last : WriterWork) (stored : List ℕ) (answer : Answer) → after.writer.work ≡ panel.writer.work → is_underway answer ≡ not (is_writer_idle last) → outcome (with_writer after last) stored answer ≡ until_ended writer_step given (reached steps effect) → outcome after stored answer ≡ until_ended writer_step budget (start_writer panel slots point work)
-      whole-ended after last stored answer same_writer busy ran =
-          run-ended panel slots point work budget e after last stored answer same_writer some busy ends
+      pub whole_ended : (after : Record) (last : WriterWork) (stored : List ℕ) (answer : Answer) → after.writer.work ≡ panel.writer.work → is_underway answer ≡ not (is_writer_idle last) → outcome (with_writer after last) stored answer ≡ until_ended writer_step given (reached steps effect) → outcome after stored answer ≡ until_ended writer_step budget (start_writer panel slots point work)
+      whole_ended after last stored answer same_writer busy ran =
+          run_ended panel slots point work budget e after last stored answer same_writer some busy ends
           (ran ∙ (λ j. until_ended writer_step (as-bound j) (reached (count j) (same j))) ∙ sym comes.same)
 
-      pub has-answer : (after : Record) (last : WriterWork) (stored : List ℕ) (answer : Answer) → after.writer.work ≡ panel.writer.work → is_underway answer ≡ not (is_writer_idle last) → outcome (with_writer after last) stored answer ≡ until_ended writer_step given (reached steps effect) → is_underway answer ≡ false
-      has-answer after last stored answer same_writer busy ran = ap (λ (now : Outcome). is_underway now.answer) (whole-ended after last stored answer same_writer busy ran) ∙ ends
+      pub has_answer : (after : Record) (last : WriterWork) (stored : List ℕ) (answer : Answer) → after.writer.work ≡ panel.writer.work → is_underway answer ≡ not (is_writer_idle last) → outcome (with_writer after last) stored answer ≡ until_ended writer_step given (reached steps effect) → is_underway answer ≡ false
+      has_answer after last stored answer same_writer busy ran = ap (λ (now : Outcome). is_underway now.answer) (whole_ended after last stored answer same_writer busy ran) ∙ ends

@@ -27,30 +27,30 @@ use Rattle.writer.specs.Work.{station_underway, station_at}
 use Rattle.writer.proofs.WriterAgreement.{operation_of}
 
 module _ (m k reach : ℕ) (counts : List ℕ) where
-  put-access : (put : Put) (stage : PutStage) → put_stage_access m reach (put_counted k put) stage ≡ put_stage_access m reach put stage
+  put_access_lem : (put : Put) (stage : PutStage) → put_stage_access m reach (put_counted k put) stage ≡ put_stage_access m reach put stage
   unfolding put_stage_access put_counted
-  put-access put (PutStage-as-Searching search) = refl
-  put-access put (Scanning index) = refl
-  put-access put (PutStage-as-Found place) = refl
-  put-access put (Chosen index) = refl
+  put_access_lem put (PutStage-as-Searching search) = refl
+  put_access_lem put (Scanning index) = refl
+  put_access_lem put (PutStage-as-Found place) = refl
+  put_access_lem put (Chosen index) = refl
 
-  change-access : (change : Change) (stage : ChangeStage) → change_stage_access m (change_counted k change) stage ≡ change_stage_access m change stage
+  change_access_lem : (change : Change) (stage : ChangeStage) → change_stage_access m (change_counted k change) stage ≡ change_stage_access m change stage
   unfolding change_stage_access change_counted
-  change-access change (ChangeStage-as-Searching search) = refl
-  change-access change (ChangeStage-as-Found place) = refl
+  change_access_lem change (ChangeStage-as-Searching search) = refl
+  change_access_lem change (ChangeStage-as-Found place) = refl
 
-  removal-access : (removal : Removal) (stage : RemovalStage) → removal_stage_access m k counts (removal_counted k removal) stage ≡ removal_stage_access m k counts removal stage
+  removal_access_lem : (removal : Removal) (stage : RemovalStage) → removal_stage_access m k counts (removal_counted k removal) stage ≡ removal_stage_access m k counts removal stage
   unfolding removal_stage_access removal_counted
-  removal-access removal (RemovalStage-as-Searching search) = refl
-  removal-access removal (RemovalStage-as-Found place) = refl
-  removal-access removal Lowering = refl
+  removal_access_lem removal (RemovalStage-as-Searching search) = refl
+  removal_access_lem removal (RemovalStage-as-Found place) = refl
+  removal_access_lem removal Lowering = refl
 
-  pub same-access : (work : WriterWork) → work_access m k reach counts (writer_counted k work) ≡ work_access m k reach counts work
+  pub same_access : (work : WriterWork) → work_access m k reach counts (writer_counted k work) ≡ work_access m k reach counts work
   unfolding work_access put_access change_access removal_access writer_counted put_counted change_counted removal_counted
-  same-access Idle = refl
-  same-access (Putting put) = put-access put put.stage
-  same-access (Changing change) = change-access change change.stage
-  same-access (Removing removal) = removal-access removal removal.stage
+  same_access Idle = refl
+  same_access (Putting put) = put_access_lem put put.stage
+  same_access (Changing change) = change_access_lem change change.stage
+  same_access (Removing removal) = removal_access_lem removal removal.stage
 
 module _ (k : ℕ) where
   pub same_left : (reach : ℕ) (work : WriterWork) → writer_left k reach (writer_counted k work) ≡ writer_left k reach work
@@ -60,16 +60,16 @@ module _ (k : ℕ) where
   same_left reach (Changing change) = refl
   same_left reach (Removing removal) = refl
 
-  same-station-underway : (work : WriterWork) → station_underway (writer_counted k work) ≡ station_underway work
+  same_station_underway : (work : WriterWork) → station_underway (writer_counted k work) ≡ station_underway work
   unfolding writer_counted change_counted
-  same-station-underway Idle = refl
-  same-station-underway (Putting put) = refl
-  same-station-underway (Changing change) = refl
-  same-station-underway (Removing removal) = refl
+  same_station_underway Idle = refl
+  same_station_underway (Putting put) = refl
+  same_station_underway (Changing change) = refl
+  same_station_underway (Removing removal) = refl
 
-  pub same-station : (work : WriterWork) → station_at (writer_counted k work) ≡ station_at work
+  pub same_station : (work : WriterWork) → station_at (writer_counted k work) ≡ station_at work
   unfolding station_at
-  same-station work = ap (numbered_place 32) (same-station-underway work)
+  same_station work = ap (numbered_place 32) (same_station_underway work)
 
   pub same_operation : (work : WriterWork) → operation_of (writer_counted k work) ≡ operation_of work
   unfolding operation_of writer_counted put_counted change_counted removal_counted
@@ -78,12 +78,12 @@ module _ (k : ℕ) where
   same_operation (Changing change) = refl
   same_operation (Removing removal) = refl
 
-  pub same-fed : (work : WriterWork) → fed_by (writer_counted k work) ≡ fed_by work
+  pub same_fed : (work : WriterWork) → fed_by (writer_counted k work) ≡ fed_by work
   unfolding writer_counted put_counted change_counted removal_counted
-  same-fed Idle = refl
-  same-fed (Putting put) = refl
-  same-fed (Changing change) = refl
-  same-fed (Removing removal) = refl
+  same_fed Idle = refl
+  same_fed (Putting put) = refl
+  same_fed (Changing change) = refl
+  same_fed (Removing removal) = refl
 
   pub same_known : (m reach : ℕ) (slots : List ℕ) (rows : Rows) (work : WriterWork) → WorkOK m k reach slots rows work → WorkOK m k reach slots rows (writer_counted k work)
   unfolding writer_counted put_counted change_counted removal_counted

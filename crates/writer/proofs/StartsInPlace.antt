@@ -16,9 +16,9 @@ abbrev pub started_in : Record → List ℕ → StartedWork → Outcome
 started_in panel slots next = outcome (with_writer panel next.work) slots next.answer
 
 module _ (panel : Record) (slots : List ℕ) (point : ℕ) where
-  pub start-in-place : (new : WriterWork) → started_in panel slots (start_work (in_range (length slots) panel) panel.writer.work point new) ≡ start_writer panel slots point new
+  pub start_in_place : (new : WriterWork) → started_in panel slots (start_work (in_range (length slots) panel) panel.writer.work point new) ≡ start_writer panel slots point new
   unfolding start_work start_writer start_refusal unless_refused with_writer
-  start-in-place new = stands (start_refusal (length slots) panel point)
+  start_in_place new = stands (start_refusal (length slots) panel point)
     where
       stands : (n : ℕ) → started_in panel slots (unless_refused n (started_work panel.writer.work) (started_work new started)) ≡ unless_refused n (outcome panel slots) (outcome (with_writer panel new) slots started)
       stands zero = refl
@@ -26,19 +26,19 @@ module _ (panel : Record) (slots : List ℕ) (point : ℕ) where
 
   pub put_in_place : (value : ℕ) → started_in panel slots (start_work (in_range (length slots) panel) panel.writer.work point (put_begun point value)) ≡ start_put panel slots point value
   unfolding start_put
-  put_in_place value = start-in-place (put_begun point value)
+  put_in_place value = start_in_place (put_begun point value)
 
-  pub change-in-place : (keep flip : ℕ) → started_in panel slots (start_work (in_range (length slots) panel) panel.writer.work point (change_begun point keep flip)) ≡ start_change panel slots point keep flip
+  pub change_in_place : (keep flip : ℕ) → started_in panel slots (start_work (in_range (length slots) panel) panel.writer.work point (change_begun point keep flip)) ≡ start_change panel slots point keep flip
   unfolding start_change
-  change-in-place keep flip = start-in-place (change_begun point keep flip)
+  change_in_place keep flip = start_in_place (change_begun point keep flip)
 
-  pub removal-in-place : started_in panel slots (start_work (in_range (length slots) panel) panel.writer.work point (removal_begun point)) ≡ start_removal panel slots point
+  pub removal_in_place : started_in panel slots (start_work (in_range (length slots) panel) panel.writer.work point (removal_begun point)) ≡ start_removal panel slots point
   unfolding start_removal
-  removal-in-place = start-in-place (removal_begun point)
+  removal_in_place = start_in_place (removal_begun point)
 
 -- the same of a record, an answer and a verdict that are told by equations
 pub start_stored : (panel : Record) (slots : List ℕ) (point : ℕ) (new : WriterWork) {after : Record} {answer : Answer} {fits : Bool} {next : StartedWork} → after ≡ with_writer panel next.work → answer ≡ next.answer → next ≡ start_work fits panel.writer.work point new → fits ≡ in_range (length slots) panel → outcome after slots answer ≡ start_writer panel slots point new
 start_stored panel slots point new same-record same_answer same_start same-range =
     (λ j. outcome (same-record j) slots (same_answer j))
     ∙ ap (started_in panel slots) (same_start ∙ ap (λ (fits : Bool). start_work fits panel.writer.work point new) same-range)
-    ∙ start-in-place panel slots point new
+    ∙ start_in_place panel slots point new

@@ -36,7 +36,7 @@ returns-2 c =
     rw c.before.before.before.before.stage2.given.1
     (c.Store-word.ensures
     ∙ ap (store_word a.m a.change.point c.before.before.before.before.stage2.given.0.0.index)
-    (c.before.word-of.ensures ∙ ap (word_of a.change.point) c.before.before.new-value.ensures))
+    (c.before.word_of_lem.ensures ∙ ap (word_of a.change.point) c.before.before.new-value.ensures))
 
 pub change-access-spec : {M : Type 1} → statement M
 change-access-spec =

@@ -2,7 +2,7 @@
 use Rattle.std.proofs.Common.{sym, ◌∙◌, arith, rules}
 use borrow.Author.Tests.{not-true, not-false}
 use Rattle.circle.proofs.HighestDigit.{shifted_some}
-use Rattle.circle.proofs.MarksLaws.{place_within, due_outside, cut-leads, all-leads, due-around, due-ahead}
+use Rattle.circle.proofs.MarksLaws.{place_within, due_outside, cut_leads, all_leads, due_around, due_ahead}
 use Rattle.circle.proofs.party_due.Statement.{statement}
 use Rattle.circle.proofs.party_due.Tie as tie
 
@@ -34,27 +34,27 @@ sub-result : tie.Need-overflow-sub-result
 sub-result c =
     let a = c.before.before.before.before.args in
     let all = c.before.all-marked in
-    all-leads a.marks all.result a.writer.work all.ensures
+    all_leads a.marks all.result a.writer.work all.ensures
 
 returns-2 : tie.Need-returns-2
 returns-2 c =
     let a = c.before.before.before.before.args in
     let all = c.before.all-marked in
     let inside = sym c.before.before.before.both_hold.ensures ∙ not-false _ c.before.before.if1.false in
-    due-around a.marks all.result a.writer.work all.ensures a.fits a.place inside c.if2.true
+    due_around a.marks all.result a.writer.work all.ensures a.fits a.place inside c.if2.true
 
 sub-result-2 : tie.Need-overflow-sub-result-2
 sub-result-2 c =
     let a = c.before.before.before.before.args in
     let all = c.before.all-marked in
-    cut-leads a.marks all.result a.writer.work all.ensures _
+    cut_leads a.marks all.result a.writer.work all.ensures _
 
 returns-3 : tie.Need-returns-3
 returns-3 c =
     let a = c.before.before.before.before.args in
     let all = c.before.all-marked in
     let inside = sym c.before.before.before.both_hold.ensures ∙ not-false _ c.before.before.if1.false in
-    due-ahead a.marks all.result a.writer.work all.ensures a.fits a.place inside c.if2.false
+    due_ahead a.marks all.result a.writer.work all.ensures a.fits a.place inside c.if2.false
 
 pub party-due-spec : {M : Type 1} → statement M
 party-due-spec =

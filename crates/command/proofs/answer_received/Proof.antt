@@ -1,7 +1,7 @@
 -- `command::answer_received` meets its contract, by what was received.
 use mathlib.Core.Path.{sym, ap, ◌∙◌}
 use Rattle.answers.specs.Answers.{outcome, unless_refused}
-use Rattle.answers.proofs.AnswerLaws.{refused-call}
+use Rattle.answers.proofs.AnswerLaws.{refused_call}
 use Rattle.command.specs.Command.{in_turn}
 use Rattle.command.specs.CommandFrames.{paper_received, answer_received}
 use borrow.Author.Rules.{rules}
@@ -38,7 +38,7 @@ returns-2 c slots =
     let a = c.before.before.before.before.args in
     let given = c.before.before.received2.given in
     c.refuse.ensures slots
-    ∙ sym (refused-call (outcome a.panel slots) _ given.0.0)
+    ∙ sym (refused_call (outcome a.panel slots) _ given.0.0)
     ∙ sym (ap (λ r. answer_received a.panel slots (paper_received r)) given.1)
 
 pub answer-received-spec : {M : Type 1} → statement M

@@ -6,7 +6,7 @@ use Rattle.frame.specs.Answers.{paper_read}
 use Rattle.command.specs.Command.{frame_refusal}
 use Rattle.command.specs.CommandFrames.{receipt, received_from}
 use Rattle.command.specs.declared.Sent.{Sent}
-use Rattle.command.proofs.FrameTaken.{command-taken, refusal-taken}
+use Rattle.command.proofs.FrameTaken.{command_taken, refusal_taken}
 use borrow.Author.Rules.{rules}
 use Rattle.command.proofs.receive_command.Statement.{statement}
 use Rattle.command.proofs.receive_command.Tie as tie
@@ -39,14 +39,14 @@ returns-3 c =
     let s = c.before.before.before.before.before.before.before.before.before.args.bytes.now in
     let given = c.before.before.fields.given in
     ap (λ (sent : Sent). record { refused = 0; sent = sent }) c.sent-of.ensures
-    ∙ command-taken s (ne_eqb _ _ c.before.before.before.before.before.before.before.if1.false) c.before.before.before.before.before.if2.false given.0.0 given.0.1.0
+    ∙ command_taken s (ne_eqb _ _ c.before.before.before.before.before.before.before.if1.false) c.before.before.before.before.before.if2.false given.0.0 given.0.1.0
     (sym (ap paper_read given.1) ∙ c.before.before.before.before.read.ensures)
 
 returns-4 : tie.Need-returns-4
 returns-4 c =
     let s = c.before.before.before.before.before.before.before.before.args.bytes.now in
     let given = c.before.refusal.given in
-    refusal-taken s (ne_eqb _ _ c.before.before.before.before.before.before.if1.false) c.before.before.before.before.if2.false given.0.0
+    refusal_taken s (ne_eqb _ _ c.before.before.before.before.before.before.if1.false) c.before.before.before.before.if2.false given.0.0
     (sym (ap paper_read given.1) ∙ c.before.before.before.read.ensures)
 
 pub receive-command-spec : {M : Type 1} → statement M

@@ -6,7 +6,7 @@ use native.Mathlib.Omega.{arith}
 use borrow.Author.Rules.{rules}
 use lib.ListN.{length, drop}
 use Rattle.disabled_points.specs.Disabled.{disabled_points}
-use Rattle.disabled_points.proofs.DisabledLaws.{points-more, points-same, points-end}
+use Rattle.disabled_points.proofs.DisabledLaws.{points_more, points_same, points_end}
 use Rattle.disabled_points.proofs.count_disabled.Statement.{statement}
 use Rattle.disabled_points.proofs.count_disabled.Tie as tie
 
@@ -43,15 +43,15 @@ loop-again c =
     let s = c.before.before.before.before.before.before.args.slots.now in
     let e = c.before.holds-disabled.ensures in
     ⊎_elim
-    (λ w. omega (arith, ap length (points-more s l.i (omega arith) (sym e ∙ w.0.taken))))
-    (λ w. omega (arith, ap length (points-same s l.i (omega arith) (sym e ∙ w.0.left))))
+    (λ w. omega (arith, ap length (points_more s l.i (omega arith) (sym e ∙ w.0.taken))))
+    (λ w. omega (arith, ap length (points_same s l.i (omega arith) (sym e ∙ w.0.left))))
     c.if1.branch
 
 returns : tie.Need-returns invariant-loop decreases-loop
 returns c =
     let l = c.before.loop in
     let s = c.before.before.before.args.slots.now in
-    omega (arith, ap length (points-end s l.i (omega arith)))
+    omega (arith, ap length (points_end s l.i (omega arith)))
 
 pub count-disabled-spec : {M : Type 1} → statement M
 count-disabled-spec =

@@ -6,7 +6,7 @@ use native.Mathlib.Omega.{arith}
 use borrow.Author.Tests.{not-true, not-false}
 use borrow.Author.Rules.{rules}
 use lib.ListN.{length}
-use Rattle.record_ranges.proofs.Laws.{sizes-in-range}
+use Rattle.record_ranges.proofs.Laws.{sizes_in_range_lem}
 use Rattle.answers.specs.Answers.{gives}
 use Rattle.disabled_points.specs.Disabled.{disabled_total}
 use Rattle.disabled_points.proofs.DisabledLaws.{points_fit}
@@ -27,7 +27,7 @@ cast-t7 : tie.Need-overflow-cast-t7
 cast-t7 c =
     let a = c.before.before.before.before.args in
     let s = a.slots.now in
-    let sizes = sizes-in-range (length s) a.panel (sym c.before.before.is_in_range.ensures ∙ not-false _ c.before.if1.false) in
+    let sizes = sizes_in_range_lem (length s) a.panel (sym c.before.before.is_in_range.ensures ∙ not-false _ c.before.if1.false) in
     omega (arith, c.count-disabled.ensures, points_fit s, sizes.m_high, sizes.whole)
 
 returns-2 : tie.Need-returns-2

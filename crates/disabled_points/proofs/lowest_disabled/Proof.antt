@@ -5,7 +5,7 @@ use native.Mathlib.Omega.{arith}
 use borrow.Author.Rules.{rules}
 use lib.ListN.{get_or, length, drop}
 use Rattle.disabled_points.specs.Disabled.{disabled_points, lowest}
-use Rattle.disabled_points.proofs.DisabledLaws.{lower_less, lowest_bound, lower-step, points-end}
+use Rattle.disabled_points.proofs.DisabledLaws.{lower_less, lowest_bound, lower_step, points_end}
 use Rattle.disabled_points.proofs.lowest_disabled.Statement.{statement}
 use Rattle.disabled_points.proofs.lowest_disabled.Tie as tie
 
@@ -38,7 +38,7 @@ loop-again c =
     let l = c.before.before.before.loop in
     let s = c.before.before.before.before.before.args.slots.now in (
       search rules,
-      ap (λ (n : ℕ). min n (lowest (disabled_points (drop (l.i + 1) s)))) c.lower.ensures ∙ lower-step s l.i l.least (omega arith) ∙ l.invariant.1,
+      ap (λ (n : ℕ). min n (lowest (disabled_points (drop (l.i + 1) s)))) c.lower.ensures ∙ lower_step s l.i l.least (omega arith) ∙ l.invariant.1,
       omega (arith, c.lower.ensures, lower_less l.least (get_or s l.i 0)),
     )
 
@@ -47,7 +47,7 @@ unfolding lowest
 returns c =
     let l = c.before.loop in
     let s = c.before.before.before.args.slots.now in
-    omega (arith, l.invariant.1, ap lowest (points-end s l.i (omega arith)), l.invariant.2)
+    omega (arith, l.invariant.1, ap lowest (points_end s l.i (omega arith)), l.invariant.2)
 
 pub lowest-disabled-spec : {M : Type 1} → statement M
 lowest-disabled-spec =

@@ -7,7 +7,7 @@ use borrow.Author.Tests.{eq-eqb, ne_eqb}
 use Rattle.record.proofs.Numbered.{mapped_length}
 use Rattle.circle.specs.Marks.{due_by}
 use Rattle.dispatcher.specs.Due.{writer_turn, reader_turn}
-use Rattle.dispatcher.proofs.TurnLaws.{due_on, turn-by-due}
+use Rattle.dispatcher.proofs.TurnLaws.{due_on, turn_by_due}
 use Rattle.dispatcher.proofs.turn.Statement.{statement}
 use Rattle.dispatcher.proofs.turn.Tie as tie
 
@@ -40,7 +40,7 @@ returns c =
     let is : due_on (length s) p ≡ due.result = sym (due.ensures ∙ (λ j. due_by (c.before.before.before.before.before.before.before.before.before.is_in_range.ensures j) p.place p.writer.work (c.before.before.before.before.before.before.readers-marked.ensures j))) in
     c.before.before.writer-turn.ensures
     ∙ sym (ap (λ (b : Bool). cond b (writer_turn p s) (reader_turn due.result p s)) (eq-eqb due.result 0 c.before.before.before.before.if1.true))
-    ∙ turn-by-due p s all due.result is
+    ∙ turn_by_due p s all due.result is
 
 same-length-2 : tie.Need-same-length-2
 same-length-2 c = search rules
@@ -56,7 +56,7 @@ returns-2 c =
     let is : due_on (length s) p ≡ due.result = sym (due.ensures ∙ (λ j. due_by (c.before.before.before.before.before.before.before.is_in_range.ensures j) p.place p.writer.work (c.before.before.before.before.readers-marked.ensures j))) in
     c.reader-turn.ensures
     ∙ sym (ap (λ (b : Bool). cond b (writer_turn p s) (reader_turn due.result p s)) (ne_eqb due.result 0 c.before.before.if1.false))
-    ∙ turn-by-due p s all due.result is
+    ∙ turn_by_due p s all due.result is
 
 pub turn_spec : {M : Type 1} → statement M
 turn_spec =

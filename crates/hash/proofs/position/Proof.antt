@@ -4,17 +4,17 @@ use Prim.Native.Nat.{ℕ}
 use mathlib.Core.Path.{sym, ap₂, ◌∙◌}
 use native.Mathlib.Omega.{arith}
 use Rattle.hash.specs.Position.{carter_wegman}
-use Rattle.hash.proofs.Laws.{position_inside, position-no-slot, position-no-index, position_past}
+use Rattle.hash.proofs.Laws.{position_inside, position_no_slot, position_no_index, position_past}
 use Rattle.hash.proofs.Table.{entry, of_function}
 use borrow.Author.Rules.{rules}
 use Rattle.hash.proofs.position.Statement.{statement}
 use Rattle.hash.proofs.position.Tie as tie
 
 returns : tie.Need-returns
-returns c = let a = c.before.args in sym (position-no-slot a.slots a.point a.index c.if1.true)
+returns c = let a = c.before.args in sym (position_no_slot a.slots a.point a.index c.if1.true)
 
 returns-2 : tie.Need-returns-2
-returns-2 c = let a = c.before.before.args in sym (position-no-index a.slots a.point a.index c.if2.true)
+returns-2 c = let a = c.before.before.args in sym (position_no_index a.slots a.point a.index c.if2.true)
 
 returns-3 : tie.Need-returns-3
 returns-3 c = let a = c.before.before.before.args in sym (position_past a.slots a.point a.index c.if3.true)

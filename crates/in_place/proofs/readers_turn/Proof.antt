@@ -43,7 +43,7 @@ use Rattle.record.proofs.parts.numbered_place.Met as place-thm
 use Rattle.record.proofs.parts.numbered_place.Symbol as place-def
 use Rattle.record.proofs.parts.numbered_place.Symbol.{name as #place}
 use Rattle.reader_step.specs.Reader.{paper_stepped, step_work, step_judged, after_step}
-use Rattle.reader_step.proofs.StepWork.{step-by-work}
+use Rattle.reader_step.proofs.StepWork.{step_by_work}
 use Rattle.reader_step.specs.contracts.SteppedReader as Stepped
 use Rattle.reader_step.proofs.SteppedReader.TheLaws as Stepped'
 use Rattle.reader_step.specs.contracts.step_work as step
@@ -60,16 +60,16 @@ use Rattle.dispatcher.specs.contracts.turn_answer as answer
 use Rattle.dispatcher.proofs.turn_answer.Met as answer-thm
 use Rattle.dispatcher.proofs.turn_answer.Symbol as answer-def
 use Rattle.dispatcher.proofs.turn_answer.Symbol.{name as #answer}
-use Rattle.in_place.proofs.Calls.{calls-plain, calls-with}
-use Rattle.in_place.proofs.Frame.{spread, gather, free-rooms}
+use Rattle.in_place.proofs.Calls.{calls_plain, calls_with}
+use Rattle.in_place.proofs.Frame.{spread, gather, free_rooms}
 use Rattle.in_place.proofs.Locals.{allocate}
 use Rattle.in_place.proofs.Params.{slots, tys, args, Related, well_typed}
 use Rattle.in_place.proofs.PartWalk.{panel_ty, slots_ty, params}
-use Rattle.in_place.proofs.RecordFields.{row, Holds, reader_ty, reader_val, m-place, k-place, reach-place, readers-place, place-place, m-read, k-read, reach-read, place_read, place-stored, reader-read, reader-stored, m-fits, k-fits, reach_fits, place_fits, reader-holds, reader-typed, reader_inside, holds-with-reader, holds-with-place, opens-panel, closes-panel}
+use Rattle.in_place.proofs.RecordFields.{row, Holds, reader_ty, reader_val, m_place, k_place, reach_place, readers_place, place_place, m_read, k_read, reach_read, place_read, place_stored, reader_read, reader_stored, m_fits, k_fits, reach_fits, place_fits, reader_holds, reader_typed, reader_inside, holds_with_reader, holds_with_place, opens_panel, closes_panel}
 use Rattle.in_place.proofs.Results.{step_result, turn_result}
-use Rattle.in_place.proofs.Steps.{span, of-local, hears, had, nothings}
+use Rattle.in_place.proofs.Steps.{span, of_local, hears, had, nothings}
 use Rattle.in_place.proofs.Taken.{Entry, Exit, ends, in_place}
-use Rattle.in_place.proofs.TurnAnswered.{answers-turn}
+use Rattle.in_place.proofs.TurnAnswered.{answers_turn}
 use Rattle.in_place.specs.contracts.readers_turn as self
 use Rattle.in_place.proofs.readers_turn.Code as code
 use Rattle.in_place.specs.contracts.readers_turn.Key.{name as #self}
@@ -115,7 +115,7 @@ module _ (h : Record) (at : ℕ) (next : Next) where
     unfolding reader_turn work_of with_place
     so answer at-is next-is placed-is answer_is =
         all-stored answer placed-is answer_is
-        ∙ ap (turned_by due) (ap (after_step at_place before at) next-is ∙ step-by-work at_place before at (ltb due 18) ∙ ap (step_judged (ltb due 18) at_place before) at-is)
+        ∙ ap (turned_by due) (ap (after_step at_place before at) next-is ∙ step_by_work at_place before at (ltb due 18) ∙ ap (step_judged (ltb due 18) at_place before) at-is)
 
 module _ {M : Type 1} {𝓤 : Ura M} (𝓛 : Logic 𝓤) (mem : Memory → SProp 𝓤) (run : Routine → Fun 𝓤) (𝓣 : Tables 𝓤 𝓛.H)
     (met-place : Triple 𝓤 (𝓣.C #place) (triple_of 𝓛 place.signature (place.spec 𝓛 mem run))) (met-step : Triple 𝓤 (𝓣.C #step) (triple_of 𝓛 step.signature (step.spec 𝓛 mem run)))
@@ -127,47 +127,47 @@ module _ {M : Type 1} {𝓤 : Ura M} (𝓛 : Logic 𝓤) (mem : Memory → SProp
   walk are =
       qed 𝓛 (Entry row N tt (params 1) 𝓛 (self.clauses 𝓛 mem run) κs qs x a tt ∷ []) ∵ split ! $ split ! $ split ! $ move ! (2 ∷ []) $ fsplit ! $ fsplit ! $ drop ! $ move ! (0 ∷ 2 ∷ []) $
       enter ! 𝓣.C 𝓣.Λ code.function (vptr b o ∷ args κs (params 1) a) _ $ allocate ! τs [] _ (λ bs. alloc0 ! $ spread ! τs bs $ params1 ! $ pass1 ! (init ! 2 refl (tt, tt)) $ pass1 ! (init ! 4 refl ok.0) $ pass1 ! (init ! 6 refl ok.1.0) $ pass0 ! $
-      move ! (36 ∷ 37 ∷ 38 ∷ []) $ opens-panel ! tt h b o (λ is-h.
+      move ! (36 ∷ 37 ∷ 38 ∷ []) $ opens_panel ! tt h b o (λ is-h.
       -- [the record; what closes it at 1 to 3; local i at 2i + 4; what the slots own at 40; their token]
-      calls-plain ! fm (u32 ∷ u32 ∷ []) (uint_Makes 𝓛 w32, (uint_Makes 𝓛 w32, tt)) (due, (16, tt)) (vint w32 due ∷ [], (vint w32 16 ∷ [], tt)) ((refl, due-fits), ((refl, lit< tt), tt)) usize (vint w64) (uint_Tells w64) (λ r. (place.spec 𝓛 mem run tt (due, (16, tt))).ensures tt r)
-      (met-place ((tt, tt, tt, (due, (16, tt)), (vint w32 due ∷ [], (vint w32 16 ∷ [], tt))), tt)) (and_then ! (of-local ! 11 refl) (and_then ! (lit ! tt) (no_more !))) (λ at is_at.
+      calls_plain ! fm (u32 ∷ u32 ∷ []) (uint_Makes 𝓛 w32, (uint_Makes 𝓛 w32, tt)) (due, (16, tt)) (vint w32 due ∷ [], (vint w32 16 ∷ [], tt)) ((refl, due-fits), ((refl, lit< tt), tt)) usize (vint w64) (uint_Tells w64) (λ r. (place.spec 𝓛 mem run tt (due, (16, tt))).ensures tt r)
+      (met-place ((tt, tt, tt, (due, (16, tt)), (vint w32 due ∷ [], (vint w32 16 ∷ [], tt))), tt)) (and_then ! (of_local ! 11 refl) (and_then ! (lit ! tt) (no_more !))) (λ at is_at.
       hears ! (lasts_of tt (place.signature).params (place.ended).kept (due, (16, tt))) (λ _. at ≡ numbered_place 16 due) (λ _ at-is. drop ! $ land ! (from ! (stop !)) (init ! 12 refl (tt, record { fits = is_at.1 })) $
       -- the reader in that place
-      assigns ! (bin ! (of-local ! 12 refl) (lit ! tt) (record { fits = reader_inside at (inside at at-is) })) (from ! (stop !)) (init ! 18 refl (tt, record { fits = reader_inside at (inside at at-is) })) $
-      assigns ! (addr ! (from ! (hop ! (look ! 6 refl) (readers-place !)))) (from ! (stop !)) (init ! 20 refl (tt, tt)) $
-      assigns ! (bin ! (of-local ! 20 refl) (of-local ! 18 refl) tt) (from ! (stop !)) (init ! 22 refl (tt, tt)) $
-      assigns ! (of_opd ! (load ! (from ! (hop ! (look ! 22 refl) (stop !))) (reader-read h is-h ! b o at (inside at at-is)))) (from ! (stop !)) (init ! 24 refl (found-typed is-h at (inside at at-is))) $
-      assigns ! (of_opd ! (of-local ! 24 refl)) (from ! (stop !)) (init ! 14 refl (found-typed is-h at (inside at at-is))) $
+      assigns ! (bin ! (of_local ! 12 refl) (lit ! tt) (record { fits = reader_inside at (inside at at-is) })) (from ! (stop !)) (init ! 18 refl (tt, record { fits = reader_inside at (inside at at-is) })) $
+      assigns ! (addr ! (from ! (hop ! (look ! 6 refl) (readers_place !)))) (from ! (stop !)) (init ! 20 refl (tt, tt)) $
+      assigns ! (bin ! (of_local ! 20 refl) (of_local ! 18 refl) tt) (from ! (stop !)) (init ! 22 refl (tt, tt)) $
+      assigns ! (of_opd ! (load ! (from ! (hop ! (look ! 22 refl) (stop !))) (reader_read h is-h ! b o at (inside at at-is)))) (from ! (stop !)) (init ! 24 refl (found-typed is-h at (inside at at-is))) $
+      assigns ! (of_opd ! (of_local ! 24 refl)) (from ! (stop !)) (init ! 14 refl (found-typed is-h at (inside at at-is))) $
       -- whether the record fits, the reader's number, m, k and the reach
-      assigns ! (bin ! (of-local ! 10 refl) (lit ! tt) tt) (from ! (stop !)) (init ! 26 refl (tt, tt)) $
-      assigns ! (un ! (of-local ! 12 refl) (record { fits = small at (inside at at-is) })) (from ! (stop !)) (init ! 28 refl (tt, record { fits = small at (inside at at-is) })) $
-      assigns ! (of_opd ! (load ! (from ! (hop ! (look ! 6 refl) (m-place !))) (m-read ! full_share h b o))) (from ! (stop !)) (init ! 30 refl (tt, record { fits = m-fits h is-h })) $
-      assigns ! (of_opd ! (load ! (from ! (hop ! (look ! 6 refl) (k-place !))) (k-read ! full_share h b o))) (from ! (stop !)) (init ! 32 refl (tt, record { fits = k-fits h is-h })) $
-      assigns ! (of_opd ! (load ! (from ! (hop ! (look ! 6 refl) (reach-place !))) (reach-read ! full_share h b o))) (from ! (stop !)) (init ! 34 refl (tt, record { fits = reach_fits h is-h })) $
+      assigns ! (bin ! (of_local ! 10 refl) (lit ! tt) tt) (from ! (stop !)) (init ! 26 refl (tt, tt)) $
+      assigns ! (un ! (of_local ! 12 refl) (record { fits = small at (inside at at-is) })) (from ! (stop !)) (init ! 28 refl (tt, record { fits = small at (inside at at-is) })) $
+      assigns ! (of_opd ! (load ! (from ! (hop ! (look ! 6 refl) (m_place !))) (m_read ! full_share h b o))) (from ! (stop !)) (init ! 30 refl (tt, record { fits = m_fits h is-h })) $
+      assigns ! (of_opd ! (load ! (from ! (hop ! (look ! 6 refl) (k_place !))) (k_read ! full_share h b o))) (from ! (stop !)) (init ! 32 refl (tt, record { fits = k_fits h is-h })) $
+      assigns ! (of_opd ! (load ! (from ! (hop ! (look ! 6 refl) (reach_place !))) (reach_read ! full_share h b o))) (from ! (stop !)) (init ! 34 refl (tt, record { fits = reach_fits h is-h })) $
       -- the step
       move ! (40 ∷ []) $ fsplit ! $ move ! (1 ∷ []) $ drop ! $ nothing ! $ move ! (1 ∷ 0 ∷ []) $ fjoin ! $ move ! (0 ∷ 41 ∷ []) $
-      calls-with ! fm (toks 𝓛 1 κs.1 qs.1) Plain (ShrSlice (named 1) κs.1.0 u64 ∷ []) (bool_Makes 𝓛, (uint_Makes 𝓛 w32, (LL.makes Reader.the_type Reader'.the_plain 𝓛, (uint_Makes 𝓛 w32, (uint_Makes 𝓛 w32, (uint_Makes 𝓛 w32, tt))))))
-      (plain at) (plain-vals at) (refl, ((refl, small at (inside at at-is)), (reader-holds h is-h at (inside at at-is), ((refl, m-fits h is-h), ((refl, k-fits h is-h), ((refl, reach_fits h is-h), tt)))))) (a.0, tt) (slice_val a.0.ptr (length before) ∷ [], tt)
-      Stepped.the_row (LL.val Stepped.the_type Stepped'.the_laws) (LL.tells Stepped.the_type Stepped'.the_laws) (λ r. (step.spec 𝓛 mem run κs.1 (asked at)).ensures tt r) (met-step ((κs.1, qs.1, tt, asked at, asked-vals at), tt))
-      (and_then ! (of-local ! 27 refl) (and_then ! (of-local ! 29 refl) (and_then ! (of-local ! 15 refl) (and_then ! (of-local ! 31 refl) (and_then ! (of-local ! 33 refl) (and_then ! (of-local ! 35 refl) (and_then ! (of-local ! 9 refl) (no_more !)))))))) (λ next is-next.
+      calls_with ! fm (toks 𝓛 1 κs.1 qs.1) Plain (ShrSlice (named 1) κs.1.0 u64 ∷ []) (bool_Makes 𝓛, (uint_Makes 𝓛 w32, (LL.makes Reader.the_type Reader'.the_plain 𝓛, (uint_Makes 𝓛 w32, (uint_Makes 𝓛 w32, (uint_Makes 𝓛 w32, tt))))))
+      (plain at) (plain-vals at) (refl, ((refl, small at (inside at at-is)), (reader_holds h is-h at (inside at at-is), ((refl, m_fits h is-h), ((refl, k_fits h is-h), ((refl, reach_fits h is-h), tt)))))) (a.0, tt) (slice_val a.0.ptr (length before) ∷ [], tt)
+      Stepped.the_row (LL.val Stepped.the_type Stepped'.the_laws) (LL.tells Stepped.the_type Stepped'.the_laws) (λ r. (step.spec 𝓛 mem run κs.1 (asked at)).ensures tt r) (met-step ((κs.1, qs.1, tt, asked at, asked_vals at), tt))
+      (and_then ! (of_local ! 27 refl) (and_then ! (of_local ! 29 refl) (and_then ! (of_local ! 15 refl) (and_then ! (of_local ! 31 refl) (and_then ! (of_local ! 33 refl) (and_then ! (of_local ! 35 refl) (and_then ! (of_local ! 9 refl) (no_more !)))))))) (λ next is-next.
       hears ! (lasts_of κs.1 (step.signature).params (step.ended).kept (asked at)) (λ _. paper_stepped next ≡ step_work (ltb due 18) at h.m h.k h.reach (found h at).work before) (λ _ next-is. drop ! $ move ! (1 ∷ []) $
       -- [the record; the token; what closes the record at 2 to 4; local i at 2i + 5]
       land ! (from ! (stop !)) (init ! 17 refl ((LL.lawful Stepped.the_type Stepped'.the_laws 𝓛).typed next _ is-next).0) $
       -- what it hands back is stored: the reader, and then the place
-      assigns ! (bin ! (of-local ! 13 refl) (lit ! tt) (record { fits = reader_inside at (inside at at-is) })) (from ! (stop !)) (store ! 19 refl (tt, record { fits = reader_inside at (inside at at-is) })) $
-      assigns ! (addr ! (from ! (hop ! (look ! 7 refl) (readers-place !)))) (from ! (stop !)) (init ! 37 refl (tt, tt)) $
-      assigns ! (bin ! (of-local ! 37 refl) (of-local ! 19 refl) tt) (from ! (stop !)) (init ! 39 refl (tt, tt)) $
-      assigns ! (of_opd ! (load ! (from ! (fld ! {τ = reader_ty} {d = 0} refl (stop !))) (look_in ! 17 (sub ! 0 {τ = reader_ty} {d = 0} refl (whole !))))) (from ! (hop ! (look ! 39 refl) (stop !))) (reader-stored h is-h ! b o at (inside at at-is) next.reader (reader-typed 𝓛 next.reader (reader-is next is-next))) $
-      assigns ! (of_opd ! (load ! (from ! (hop ! (look ! 7 refl) (place-place !))) (place_read ! full_share (h₁ h at next) b o))) (from ! (stop !)) (store ! 29 refl (tt, record { fits = place_fits (h₁ h at next) (holds₁ is-h at next is-next) })) $
-      calls-plain ! fm (u32 ∷ u32 ∷ []) (uint_Makes 𝓛 w32, (uint_Makes 𝓛 w32, tt)) ((h₁ h at next).place, (due, tt)) (vint w32 (h₁ h at next).place ∷ [], (vint w32 due ∷ [], tt)) ((refl, place_fits (h₁ h at next) (holds₁ is-h at next is-next)), ((refl, due-fits), tt)) u32 (vint w32) (uint_Tells w32)
-      (λ r. (next_place.spec 𝓛 mem run tt ((h₁ h at next).place, (due, tt))).ensures tt r) (Met-next ((tt, tt, tt, ((h₁ h at next).place, (due, tt)), (vint w32 (h₁ h at next).place ∷ [], (vint w32 due ∷ [], tt))), tt)) (and_then ! (of-local ! 30 refl) (and_then ! (of-local ! 12 refl) (no_more !))) (λ placed is-placed.
+      assigns ! (bin ! (of_local ! 13 refl) (lit ! tt) (record { fits = reader_inside at (inside at at-is) })) (from ! (stop !)) (store ! 19 refl (tt, record { fits = reader_inside at (inside at at-is) })) $
+      assigns ! (addr ! (from ! (hop ! (look ! 7 refl) (readers_place !)))) (from ! (stop !)) (init ! 37 refl (tt, tt)) $
+      assigns ! (bin ! (of_local ! 37 refl) (of_local ! 19 refl) tt) (from ! (stop !)) (init ! 39 refl (tt, tt)) $
+      assigns ! (of_opd ! (load ! (from ! (fld ! {τ = reader_ty} {d = 0} refl (stop !))) (look_in ! 17 (sub ! 0 {τ = reader_ty} {d = 0} refl (whole !))))) (from ! (hop ! (look ! 39 refl) (stop !))) (reader_stored h is-h ! b o at (inside at at-is) next.reader (reader_typed 𝓛 next.reader (reader-is next is-next))) $
+      assigns ! (of_opd ! (load ! (from ! (hop ! (look ! 7 refl) (place_place !))) (place_read ! full_share (h₁ h at next) b o))) (from ! (stop !)) (store ! 29 refl (tt, record { fits = place_fits (h₁ h at next) (holds₁ is-h at next is-next) })) $
+      calls_plain ! fm (u32 ∷ u32 ∷ []) (uint_Makes 𝓛 w32, (uint_Makes 𝓛 w32, tt)) ((h₁ h at next).place, (due, tt)) (vint w32 (h₁ h at next).place ∷ [], (vint w32 due ∷ [], tt)) ((refl, place_fits (h₁ h at next) (holds₁ is-h at next is-next)), ((refl, due-fits), tt)) u32 (vint w32) (uint_Tells w32)
+      (λ r. (next_place.spec 𝓛 mem run tt ((h₁ h at next).place, (due, tt))).ensures tt r) (Met-next ((tt, tt, tt, ((h₁ h at next).place, (due, tt)), (vint w32 (h₁ h at next).place ∷ [], (vint w32 due ∷ [], tt))), tt)) (and_then ! (of_local ! 30 refl) (and_then ! (of_local ! 12 refl) (no_more !))) (λ placed is-placed.
       hears ! (lasts_of tt (next_place.signature).params (next_place.ended).kept ((h₁ h at next).place, (due, tt))) (λ _. placed ≡ place_after (h₁ h at next).place due) (λ _ placed-is. drop ! $ land ! (from ! (stop !)) (store ! 35 refl (tt, record { fits = is-placed.1 })) $
-      assigns ! (of_opd ! (of-local ! 35 refl)) (from ! (hop ! (look ! 7 refl) (place-place !))) (place-stored ! (h₁ h at next) b o placed (tt, record { fits = is-placed.1 })) $
-      answers-turn 𝓛 mem run 𝓣 met-answer due due-fits next.answer (answer_is next is-next) (and_then ! (of-local ! 12 refl) (and_then ! (load ! (from ! (fld ! {τ = step_result.ty} {d = 24} refl (stop !))) (look_in ! 18 (sub ! 1 {τ = step_result.ty} {d = 24} refl (whole !)))) (no_more !))) (λ t is-t t-is.
+      assigns ! (of_opd ! (of_local ! 35 refl)) (from ! (hop ! (look ! 7 refl) (place_place !))) (place_stored ! (h₁ h at next) b o placed (tt, record { fits = is-placed.1 })) $
+      answers_turn 𝓛 mem run 𝓣 met-answer due due-fits next.answer (answer_is next is-next) (and_then ! (of_local ! 12 refl) (and_then ! (load ! (from ! (fld ! {τ = step_result.ty} {d = 24} refl (stop !))) (look_in ! 18 (sub ! 1 {τ = step_result.ty} {d = 24} refl (whole !)))) (no_more !))) (λ t is-t t-is.
       land ! (from ! (stop !)) (init ! 5 refl (turn_result.typed 𝓛 t is-t).0) $
-      move ! (0 ∷ 2 ∷ 3 ∷ 4 ∷ []) $ closes-panel ! tt (after h at next placed) b o (holds-with-place (h₁ h at next) (holds₁ is-h at next is-next) placed is-placed.1) $
+      move ! (0 ∷ 2 ∷ 3 ∷ 4 ∷ []) $ closes_panel ! tt (after h at next placed) b o (holds_with_place (h₁ h at next) (holds₁ is-h at next is-next) placed is-placed.1) $
       -- [what the reference owns at 0 and 1; its token; the slots' token; local i at 2i + 4]
-      returns ! (look ! 4 refl) $ move ! (span 4 36) $ gather ! τs bs (some _ ∷ some _ ∷ some _ ∷ some _ ∷ some _ ∷ some _ ∷ some _ ∷ some _ ∷ some _ ∷ some _ ∷ some _ ∷ some _ ∷ some _ ∷ some _ ∷ some _ ∷ some _ ∷ some _ ∷ some _ ∷ []) $ free-rooms ! τs bs [] $ free0 ! $
+      returns ! (look ! 4 refl) $ move ! (span 4 36) $ gather ! τs bs (some _ ∷ some _ ∷ some _ ∷ some _ ∷ some _ ∷ some _ ∷ some _ ∷ some _ ∷ some _ ∷ some _ ∷ some _ ∷ some _ ∷ some _ ∷ some _ ∷ some _ ∷ some _ ∷ some _ ∷ some _ ∷ []) $ free_rooms ! τs bs [] $ free0 ! $
       keep ! (0 ∷ 2 ∷ 3 ∷ []) $ use0 𝓛 (‵ (nothings 2)) (had 𝓛 2) $ use0 𝓛 (raw (emp 𝓤)) (id⊢ 𝓤 _) $ move ! (2 ∷ 3 ∷ 4 ∷ 0 ∷ 1 ∷ []) $
       by ! (ends row N tt (params 1) 𝓛 (self.clauses 𝓛 mem run) κs qs x a tt (turn_result.makes 𝓛) t _ is-t (after h at next placed) (tt, (tt, tt)) (emp 𝓤) (fact_i 𝓤 _ (emp 𝓤) (so h at next placed due before (paper_turn t) at-is next-is placed-is t-is))))))))))))
     where
@@ -199,7 +199,7 @@ module _ {M : Type 1} {𝓤 : Ura M} (𝓛 : Logic 𝓤) (mem : Memory → SProp
       inside at e = subst (λ (k : ℕ). k < 16) (sym e) (place_below 16 due (omega arith))
 
       found-typed : Holds h → (at : ℕ) → at < 16 → T (has_ty reader_ty (reader_val (found h at))) × WT (reader_val (found h at))
-      found-typed is at l = reader-typed 𝓛 (found h at) (reader-holds h is at l)
+      found-typed is at l = reader_typed 𝓛 (found h at) (reader_holds h is at l)
 
       -- what the step is handed, and its machine values
       plain : ℕ → Denots Plain
@@ -211,8 +211,8 @@ module _ {M : Type 1} {𝓤 : Ura M} (𝓛 : Logic 𝓤) (mem : Memory → SProp
       asked : ℕ → Denots (types_at (step.signature).params κs.1)
       asked at = (ltb due 18, (at, (found h at, (h.m, (h.k, (h.reach, (a.0, tt)))))))
 
-      asked-vals : ℕ → Valss (types_at (step.signature).params κs.1)
-      asked-vals at = (vbool (ltb due 18) ∷ [], (vint w32 at ∷ [], (reader_val (found h at) ∷ [], (vint w32 h.m ∷ [], (vint w32 h.k ∷ [], (vint w32 h.reach ∷ [], (slice_val a.0.ptr (length before) ∷ [], tt)))))))
+      asked_vals : ℕ → Valss (types_at (step.signature).params κs.1)
+      asked_vals at = (vbool (ltb due 18) ∷ [], (vint w32 at ∷ [], (reader_val (found h at) ∷ [], (vint w32 h.m ∷ [], (vint w32 h.k ∷ [], (vint w32 h.reach ∷ [], (slice_val a.0.ptr (length before) ∷ [], tt)))))))
 
       -- what is known of what it hands back
       Handed : Next → Type 0
@@ -225,7 +225,7 @@ module _ {M : Type 1} {𝓤 : Ura M} (𝓛 : Logic 𝓤) (mem : Memory → SProp
       answer_is next is = (LL.owed Stepped.the_type Stepped'.the_laws next _ is).1.0
 
       holds₁ : Holds h → (at : ℕ) (next : Next) → Handed next → Holds (h₁ h at next)
-      holds₁ is-h at next is = holds-with-reader h is-h at next.reader (reader-is next is)
+      holds₁ is-h at next is = holds_with_reader h is-h at next.reader (reader-is next is)
 
 pub readers-turn-spec : {M : Type 1} → statement M
 unfolding code.routine tables_of

@@ -3,13 +3,13 @@ use Rattle.std.proofs.Common.{refl, ap, ◌∙◌}
 use denote.Triple.End.{lasts_of}
 use denote.Triple.Spec.{triple_of}
 use denote.Triple.Table.{cited}
-use Rattle.reader_starts.proofs.StartWork.{walk-in-place}
+use Rattle.reader_starts.proofs.StartWork.{walk_in_place}
 use Rattle.reader_starts.specs.contracts.walk_started as callee
 use Rattle.reader_starts.proofs.walk_started.Met as callee-thm
 use Rattle.reader_starts.proofs.walk_started.Symbol as callee-def
 use Rattle.reader_starts.proofs.walk_started.Symbol.{name as #callee}
 use Rattle.in_place.proofs.Panel.{started_reader}
-use Rattle.in_place.proofs.ReaderPart.{started_with, started-vals, left_by, reader_starts}
+use Rattle.in_place.proofs.ReaderPart.{started_with, started_vals, left_by, reader_starts}
 use Rattle.in_place.proofs.Steps.{follows}
 use Rattle.in_place.specs.contracts.start_walk as self
 use Rattle.in_place.proofs.start_walk.Code as code
@@ -21,5 +21,5 @@ unfolding code.routine
 start-walk-spec 𝓤 𝓛 𝓜 𝓡 =
     reader_starts started_reader 0 𝓛 𝓜 𝓡 (record { clauses = self.clauses 𝓛 𝓜.mem 𝓡.run; routines = code.env; name = #self; code = code.function; closed = code.unfolded 𝓤 𝓛.H 𝓜 𝓡; fits_is = refl }) refl #callee refl
     (λ κs x a next. (callee.spec 𝓛 𝓜.mem 𝓡.run tt (started_with 0 κs x a)).ensures tt next)
-    (λ κs x a. cited 𝓤 𝓛.H (triple_of 𝓛 callee.signature (callee.spec 𝓛 𝓜.mem 𝓡.run)) 𝓜 𝓡 code.env #callee callee-def.routine refl (callee-thm.met 𝓤 𝓛 𝓜 𝓡) ((tt, tt, tt, started_with 0 κs x a, started-vals 0 κs x a), tt))
-    (λ κs x a γ next. follows 𝓛 (lasts_of tt (callee.signature).params (callee.ended).kept (started_with 0 κs x a)) _ _ (λ next-is. ap (left_by x.now a.0.now a.1.0) next-is ∙ walk-in-place x.now a.0.now a.1.0))
+    (λ κs x a. cited 𝓤 𝓛.H (triple_of 𝓛 callee.signature (callee.spec 𝓛 𝓜.mem 𝓡.run)) 𝓜 𝓡 code.env #callee callee-def.routine refl (callee-thm.met 𝓤 𝓛 𝓜 𝓡) ((tt, tt, tt, started_with 0 κs x a, started_vals 0 κs x a), tt))
+    (λ κs x a γ next. follows 𝓛 (lasts_of tt (callee.signature).params (callee.ended).kept (started_with 0 κs x a)) _ _ (λ next-is. ap (left_by x.now a.0.now a.1.0) next-is ∙ walk_in_place x.now a.0.now a.1.0))

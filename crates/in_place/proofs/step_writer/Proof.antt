@@ -40,14 +40,14 @@ use Rattle.in_place.proofs.writers_step.Symbol as step-def
 use Rattle.in_place.proofs.writers_step.Symbol.{name as #step}
 use Rattle.in_place.proofs.Calls.{renamed}
 use Rattle.in_place.proofs.Frame.{spread}
-use Rattle.in_place.proofs.HandedOn.{lends-on, ends_so}
+use Rattle.in_place.proofs.HandedOn.{lends_on, ends_so}
 use Rattle.in_place.proofs.Locals.{allocate}
 use Rattle.in_place.proofs.Params.{slots, tys, args, Related, well_typed}
 use Rattle.in_place.proofs.RecordFields.{row}
 use Rattle.in_place.proofs.Results.{truth, step_result}
-use Rattle.in_place.proofs.Steps.{span, of-local}
+use Rattle.in_place.proofs.Steps.{span, of_local}
 use Rattle.in_place.proofs.Taken.{Entry, Exit, in_place}
-use Rattle.in_place.proofs.WritersStep.{lent, steps-writer}
+use Rattle.in_place.proofs.WritersStep.{lent, steps_writer}
 use Rattle.in_place.specs.contracts.step_writer as self
 use Rattle.in_place.proofs.step_writer.Code as code
 use Rattle.in_place.specs.contracts.step_writer.Key.{name as #self}
@@ -70,14 +70,14 @@ module _ {M : Type 1} {𝓤 : Ura M} (𝓛 : Logic 𝓤) (mem : Memory → SProp
       -- [what the reference owns at 0 and 1; its token; local i at 2i + 3; what the slots own at 21; their token]: the record is judged
       assigns ! (addr ! (from ! (hop ! (look ! 5 refl) (stop !)))) (from ! (stop !)) (init ! 11 refl (tt, tt)) $
       assigns ! (of_opd ! (load ! (from ! (fld ! refl (stop !))) (look_in ! 7 (sub ! 1 refl (whole !))))) (from ! (stop !)) (init ! 13 refl (tt, ok.0.1.1.0)) $
-      lends-on ! (fm_of 𝓤 H 𝓛.laws 𝓣) κs.0 qs.0 x n ok.0.1.1.0.fits truth (λ ν γ. lasts_of (ν ∷ [], tt) (fits.signature).params (fits.ended).kept (renamed x γ, (n, tt))) (λ fit. fit ≡ in_range n h)
-      (λ ν γ. met-fits (((ν ∷ [], tt), (full_share, tt), tt, (renamed x γ, (n, tt)), (vptr b o ∷ [], (vint w64 n ∷ [], tt))), tt)) (λ ν γ. and_then ! (of-local ! 13 refl) (and_then ! (of-local ! 15 refl) (no_more !))) (λ _ fit _ fit_is.
+      lends_on ! (fm_of 𝓤 H 𝓛.laws 𝓣) κs.0 qs.0 x n ok.0.1.1.0.fits truth (λ ν γ. lasts_of (ν ∷ [], tt) (fits.signature).params (fits.ended).kept (renamed x γ, (n, tt))) (λ fit. fit ≡ in_range n h)
+      (λ ν γ. met-fits (((ν ∷ [], tt), (full_share, tt), tt, (renamed x γ, (n, tt)), (vptr b o ∷ [], (vint w64 n ∷ [], tt))), tt)) (λ ν γ. and_then ! (of_local ! 13 refl) (and_then ! (of_local ! 15 refl) (no_more !))) (λ _ fit _ fit_is.
       land ! (from ! (stop !)) (init ! 9 refl (tt, tt)) $
       -- the two references are handed on
       assigns ! (addr ! (from ! (hop ! (look ! 5 refl) (stop !)))) (from ! (stop !)) (init ! 15 refl (tt, tt)) $
       assigns ! (addr ! (from ! (fld ! refl (hop ! (look_in ! 7 (sub ! 0 refl (whole !))) (stop !))))) (from ! (stop !)) (init ! 17 refl (tt, tt)) $
-      assigns ! (agg ! (and_then ! (of-local ! 17 refl) (and_then ! (load ! (from ! (fld ! refl (stop !))) (look_in ! 7 (sub ! 1 refl (whole !)))) (no_more !)))) (from ! (stop !)) (init ! 19 refl (tt, ok.0.1)) $
-      move ! (0 ∷ 1 ∷ 2 ∷ 21 ∷ 22 ∷ []) $ steps-writer 𝓛 mem run 𝓣 met-step κs qs x a.0 fit (and_then ! (of-local ! 13 refl) (and_then ! (of-local ! 17 refl) (and_then ! (of-local ! 7 refl) (no_more !)))) (λ w is-w last after w-is.
+      assigns ! (agg ! (and_then ! (of_local ! 17 refl) (and_then ! (load ! (from ! (fld ! refl (stop !))) (look_in ! 7 (sub ! 1 refl (whole !)))) (no_more !)))) (from ! (stop !)) (init ! 19 refl (tt, ok.0.1)) $
+      move ! (0 ∷ 1 ∷ 2 ∷ 21 ∷ 22 ∷ []) $ steps_writer 𝓛 mem run 𝓣 met-step κs qs x a.0 fit (and_then ! (of_local ! 13 refl) (and_then ! (of_local ! 17 refl) (and_then ! (of_local ! 7 refl) (no_more !)))) (λ w is-w last after w-is.
       -- [the record's last value; that of the slots; the token; the tokens; local i at 2i + 4]
       land ! (from ! (stop !)) (init ! 4 refl (step_result.typed 𝓛 w is-w).0) $ returns ! (look ! 4 refl) $ move ! (span 4 18) $
       ends_so ! step_result lent (self.clauses 𝓛 mem run) κs qs x a tt τs bs (some _ ∷ some _ ∷ some _ ∷ some _ ∷ some _ ∷ some _ ∷ some _ ∷ some _ ∷ some _ ∷ []) w is-w last (after, tt) (fact_i 𝓤 _ (emp 𝓤) (w-is ∙ ap (λ (f : Bool). step_stored f h before) fit_is ∙ step_in_place h before)) _)))

@@ -39,7 +39,7 @@ use Rattle.record_ranges.specs.Ranges.{in_range}
 use Rattle.circle.specs.Marks.{marked_behind, due_by}
 use Rattle.dispatcher.specs.Due.{writer_turn, reader_turn}
 use Rattle.dispatcher.specs.Turn.{take_turn}
-use Rattle.dispatcher.proofs.TurnLaws.{due_on, turn-by-due}
+use Rattle.dispatcher.proofs.TurnLaws.{due_on, turn_by_due}
 use Rattle.in_place.specs.contracts.due.due_at as due-of
 use Rattle.in_place.proofs.due.due_at.Met as due-thm
 use Rattle.in_place.proofs.due.due_at.Symbol as due-def
@@ -54,14 +54,14 @@ use Rattle.in_place.proofs.readers_turn.Symbol as readers-def
 use Rattle.in_place.proofs.readers_turn.Symbol.{name as #readers}
 use Rattle.in_place.proofs.Calls.{renamed}
 use Rattle.in_place.proofs.Frame.{entries, spread}
-use Rattle.in_place.proofs.HandedOn.{hands_on, lends-on, ends_so}
+use Rattle.in_place.proofs.HandedOn.{hands_on, lends_on, ends_so}
 use Rattle.in_place.proofs.Locals.{Blocks, env, allocate}
 use Rattle.in_place.proofs.Params.{slots, tys, args, passed, Related, well_typed}
 use Rattle.in_place.proofs.PartWalk.{params}
-use Rattle.in_place.proofs.RecordFields.{row, Holds, readers-number}
+use Rattle.in_place.proofs.RecordFields.{row, Holds, readers_number}
 use Rattle.in_place.proofs.Results.{number, turn_result}
-use Rattle.in_place.proofs.SlotsShared.{shares-slots}
-use Rattle.in_place.proofs.Steps.{span, of-local}
+use Rattle.in_place.proofs.SlotsShared.{shares_slots}
+use Rattle.in_place.proofs.Steps.{span, of_local}
 use Rattle.in_place.proofs.Taken.{Entry, Exit, in_place}
 use Rattle.in_place.proofs.WritersStep.{lent}
 use Rattle.in_place.specs.contracts.turn as self
@@ -81,7 +81,7 @@ abbrev τs : List Ty
 module _ (h : Record) (before : List ℕ) (is : Holds h) (due : ℕ) (due_is : due ≡ due_by (in_range (length before) h) h.place h.writer.work (marked_behind 0 h.readers)) where
   by-due : (writers-due : Bool) → eqb due 0 ≡ writers-due → cond writers-due (writer_turn h before) (reader_turn due h before) ≡ take_turn h before
   unfolding due_on
-  by-due writers-due e = ap (λ (b : Bool). cond b (writer_turn h before) (reader_turn due h before)) (sym e) ∙ turn-by-due h before (readers-number h is) due (sym due_is)
+  by-due writers-due e = ap (λ (b : Bool). cond b (writer_turn h before) (reader_turn due h before)) (sym e) ∙ turn_by_due h before (readers_number h is) due (sym due_is)
 
 module _ {M : Type 1} {𝓤 : Ura M} (𝓛 : Logic 𝓤) (mem : Memory → SProp 𝓤) (run : Routine → Fun 𝓤) (𝓣 : Tables 𝓤 𝓛.H)
     (met-due : Triple 𝓤 (𝓣.C #due) (triple_of 𝓛 due-of.signature (due-of.spec 𝓛 mem run)))
@@ -100,7 +100,7 @@ module _ {M : Type 1} {𝓤 : Ura M} (𝓛 : Logic 𝓤) (mem : Memory → SProp
       → Sq 𝓛 (‵ (fres x.name (row.coded.code last)) ∷ ‵ (lasts_of κs (slots lent) (all yes (slots lent)) a (after, tt)) ∷ ‵ (flft κs.0 qs.0) ∷ raw (toks 𝓛 1 κs.1 qs.1) ∷ (entries 𝓤 τs bs (none ∷ some v₁ ∷ some v₂ ∷ some v₃ ∷ some v₄ ∷ some v₅ ∷ some v₆ ∷ some (turn_result.val w) ∷ cs) ++ Γ))
       (runs 𝓣.C 𝓣.Λ (env τs bs ++ []) rest (at_ret (env τs bs ++ []) Post))
   finishes bs v₁ v₂ v₃ v₄ v₅ v₆ cs w is-w last after so Γ =
-      assigns ! (of_opd ! (of-local ! 18 refl)) (from ! (stop !)) (init ! 4 refl (turn_result.typed 𝓛 w is-w).0) $
+      assigns ! (of_opd ! (of_local ! 18 refl)) (from ! (stop !)) (init ! 4 refl (turn_result.typed 𝓛 w is-w).0) $
       returns ! (look ! 4 refl) $ move ! (span 4 28) $
       ends_so ! turn_result lent (self.clauses 𝓛 mem run) κs qs x a tt τs bs (some (turn_result.val w) ∷ some v₁ ∷ some v₂ ∷ some v₃ ∷ some v₄ ∷ some v₅ ∷ some v₆ ∷ some (turn_result.val w) ∷ cs) w is-w last (after, tt) (fact_i 𝓤 _ (emp 𝓤) so) Γ
 
@@ -112,18 +112,18 @@ module _ {M : Type 1} {𝓤 : Ura M} (𝓛 : Logic 𝓤) (mem : Memory → SProp
       -- [what the reference owns at 0 and 1; its token; local i at 2i + 3; what the slots own at 31; their token]: the party due is found
       assigns ! (addr ! (from ! (hop ! (look ! 5 refl) (stop !)))) (from ! (stop !)) (init ! 11 refl (tt, tt)) $
       assigns ! (of_opd ! (load ! (from ! (fld ! refl (stop !))) (look_in ! 7 (sub ! 1 refl (whole !))))) (from ! (stop !)) (init ! 13 refl (tt, ok.0.1.1.0)) $
-      lends-on ! fm κs.0 qs.0 x n ok.0.1.1.0.fits number (λ ν γ. lasts_of (ν ∷ [], tt) (due-of.signature).params (due-of.ended).kept (renamed x γ, (n, tt))) (λ due. due ≡ due_by (in_range n h) h.place h.writer.work (marked_behind 0 h.readers))
-      (λ ν γ. met-due (((ν ∷ [], tt), (full_share, tt), tt, (renamed x γ, (n, tt)), (vptr b o ∷ [], (vint w64 n ∷ [], tt))), tt)) (λ ν γ. and_then ! (of-local ! 13 refl) (and_then ! (of-local ! 15 refl) (no_more !))) (λ is-h due is_due due_is.
+      lends_on ! fm κs.0 qs.0 x n ok.0.1.1.0.fits number (λ ν γ. lasts_of (ν ∷ [], tt) (due-of.signature).params (due-of.ended).kept (renamed x γ, (n, tt))) (λ due. due ≡ due_by (in_range n h) h.place h.writer.work (marked_behind 0 h.readers))
+      (λ ν γ. met-due (((ν ∷ [], tt), (full_share, tt), tt, (renamed x γ, (n, tt)), (vptr b o ∷ [], (vint w64 n ∷ [], tt))), tt)) (λ ν γ. and_then ! (of_local ! 13 refl) (and_then ! (of_local ! 15 refl) (no_more !))) (λ is-h due is_due due_is.
       land ! (from ! (stop !)) (init ! 9 refl (tt, record { fits = is_due.1 })) $
-      assigns ! (bin ! (of-local ! 9 refl) (lit ! tt) tt) (from ! (stop !)) (init ! 15 refl (tt, tt)) $
-      first ! $ branches ! (of-local ! 15 refl)
+      assigns ! (bin ! (of_local ! 9 refl) (lit ! tt) tt) (from ! (stop !)) (init ! 15 refl (tt, tt)) $
+      first ! $ branches ! (of_local ! 15 refl)
       -- the writer is due
       (λ it-is.
       assigns ! (addr ! (from ! (hop ! (look ! 5 refl) (stop !)))) (from ! (stop !)) (init ! 19 refl (tt, tt)) $
       assigns ! (addr ! (from ! (fld ! refl (hop ! (look_in ! 7 (sub ! 0 refl (whole !))) (stop !))))) (from ! (stop !)) (init ! 21 refl (tt, tt)) $
-      assigns ! (agg ! (and_then ! (of-local ! 21 refl) (and_then ! (load ! (from ! (fld ! refl (stop !))) (look_in ! 7 (sub ! 1 refl (whole !)))) (no_more !)))) (from ! (stop !)) (init ! 23 refl (tt, ok.0.1)) $
+      assigns ! (agg ! (and_then ! (of_local ! 21 refl) (and_then ! (load ! (from ! (fld ! refl (stop !))) (look_in ! 7 (sub ! 1 refl (whole !)))) (no_more !)))) (from ! (stop !)) (init ! 23 refl (tt, ok.0.1)) $
       move ! (0 ∷ 1 ∷ 2 ∷ 31 ∷ 32 ∷ []) $ hands_on ! (𝓣.C #writers) (calls_from_last ! fm) (λ _. tt) turn_result lent (writers.clauses 𝓛 mem run) κs qs x a tt (id⊢ 𝓤 _) (met-writers ((κs, qs, tt, (x, a), (vptr b o ∷ [], passed κs lent a)), tt))
-      (and_then ! (of-local ! 17 refl) (and_then ! (of-local ! 21 refl) (no_more !))) (λ w is-w last l. heard ! (outcome last l.0 (paper_turn w) ≡ writer_turn h before) (λ w-is.
+      (and_then ! (of_local ! 17 refl) (and_then ! (of_local ! 21 refl) (no_more !))) (λ w is-w last l. heard ! (outcome last l.0 (paper_turn w) ≡ writer_turn h before) (λ w-is.
       -- [the record's last value; that of the slots; the token; the tokens; local i at 2i + 4]
       land_last ! (from ! (stop !)) (init ! 18 refl (turn_result.typed 𝓛 w is-w).0) $ exec ! 𝓣.C 𝓣.Λ _ rest (at_ret _ Post) $
       finishes bs _ _ _ _ _ _ (some _ ∷ some _ ∷ some _ ∷ []) w is-w last l.0 (w-is ∙ by-due h before is-h due due_is true (is_true (eqb due 0) it-is)) _)))
@@ -131,11 +131,11 @@ module _ {M : Type 1} {𝓤 : Ura M} (𝓛 : Logic 𝓤) (mem : Memory → SProp
       (λ it-is-not.
       assigns ! (addr ! (from ! (hop ! (look ! 5 refl) (stop !)))) (from ! (stop !)) (init ! 25 refl (tt, tt)) $
       assigns ! (addr ! (from ! (fld ! refl (hop ! (look_in ! 7 (sub ! 0 refl (whole !))) (stop !))))) (from ! (stop !)) (init ! 27 refl (tt, tt)) $
-      assigns ! (agg ! (and_then ! (of-local ! 27 refl) (and_then ! (load ! (from ! (fld ! refl (stop !))) (look_in ! 7 (sub ! 1 refl (whole !)))) (no_more !)))) (from ! (stop !)) (init ! 29 refl (tt, ok.0.1)) $
-      move ! (31 ∷ 32 ∷ []) $ shares-slots ! tt κs qs a.0 (λ γ₁. owned ! u32 (Is u32) (uint_Makes 𝓛 w32) due (vint w32 due ∷ []) is_due $ nothing ! $ move ! (1 ∷ 0 ∷ []) $ fjoin ! $ move ! (1 ∷ 0 ∷ []) $ fjoin ! $
+      assigns ! (agg ! (and_then ! (of_local ! 27 refl) (and_then ! (load ! (from ! (fld ! refl (stop !))) (look_in ! 7 (sub ! 1 refl (whole !)))) (no_more !)))) (from ! (stop !)) (init ! 29 refl (tt, ok.0.1)) $
+      move ! (31 ∷ 32 ∷ []) $ shares_slots ! tt κs qs a.0 (λ γ₁. owned ! u32 (Is u32) (uint_Makes 𝓛 w32) due (vint w32 due ∷ []) is_due $ nothing ! $ move ! (1 ∷ 0 ∷ []) $ fjoin ! $ move ! (1 ∷ 0 ∷ []) $ fjoin ! $
       -- [what the slots and the number own; what is said of the last slots; their token; what the reference owns at 3 and 4; its token; local i at 2i + 6]
       move ! (3 ∷ 4 ∷ 5 ∷ 0 ∷ 2 ∷ []) $ hands_on ! (𝓣.C #readers) (calls_from_last ! fm) (λ _. tt) turn_result (params 1) (readers.clauses 𝓛 mem run) κs qs x (renamed a.0 γ₁, (due, tt)) tt (id⊢ 𝓤 _)
-      (met-readers ((κs, qs, tt, (x, (renamed a.0 γ₁, (due, tt))), (vptr b o ∷ [], passed κs (params 1) (renamed a.0 γ₁, (due, tt)))), tt)) (and_then ! (of-local ! 24 refl) (and_then ! (of-local ! 28 refl) (and_then ! (of-local ! 8 refl) (no_more !)))) (λ w is-w last l.
+      (met-readers ((κs, qs, tt, (x, (renamed a.0 γ₁, (due, tt))), (vptr b o ∷ [], passed κs (params 1) (renamed a.0 γ₁, (due, tt)))), tt)) (and_then ! (of_local ! 24 refl) (and_then ! (of_local ! 28 refl) (and_then ! (of_local ! 8 refl) (no_more !)))) (λ w is-w last l.
       heard ! (outcome last before (paper_turn w) ≡ reader_turn due h before) (λ w-is. move ! (1 ∷ []) $ drop ! $ move ! (0 ∷ 3 ∷ []) $
       land_last ! (from ! (stop !)) (init ! 18 refl (turn_result.typed 𝓛 w is-w).0) $ exec ! 𝓣.C 𝓣.Λ _ rest (at_ret _ Post) $
       finishes bs _ _ _ _ _ _ (none ∷ none ∷ none ∷ some _ ∷ some _ ∷ some _ ∷ []) w is-w last before (w-is ∙ by-due h before is-h due due_is false (is_false (eqb due 0) it-is-not)) _))))))

@@ -54,13 +54,13 @@ use Rattle.writer.specs.contracts.step_work as step
 use Rattle.writer.proofs.step_work.Met as step_thm
 use Rattle.writer.proofs.step_work.Symbol as step-def
 use Rattle.writer.proofs.step_work.Symbol.{name as #step}
-use Rattle.in_place.proofs.Calls.{calls-plain}
-use Rattle.in_place.proofs.CountsLent.{counts_ref, calls-counting}
-use Rattle.in_place.proofs.Frame.{spread, gather, free-rooms}
+use Rattle.in_place.proofs.Calls.{calls_plain}
+use Rattle.in_place.proofs.CountsLent.{counts_ref, calls_counting}
+use Rattle.in_place.proofs.Frame.{spread, gather, free_rooms}
 use Rattle.in_place.proofs.Locals.{allocate}
 use Rattle.in_place.proofs.Params.{Param, slice_mut, flag, slots, tys, args, Related, well_typed}
-use Rattle.in_place.proofs.RecordFields.{row, Holds, counts_ty, writer_ty, station_ty, writer_val, station_val, m-place, k-place, reach-place, counts-place, writer-place, stations-place, m-read, k-read, reach-read, writer-read, station-read, reach-stored, count-stored, station-stored, writer-stored, m-fits, k-fits, reach_fits, writer-holds, station-holds, writer-typed, station-typed, holds-with-reach, holds-with-count, holds-with-station, holds-with-writer, opens-panel, closes-panel, count_inside, station_inside}
-use Rattle.in_place.proofs.Steps.{span, of-local, hears, before as handing}
+use Rattle.in_place.proofs.RecordFields.{row, Holds, counts_ty, writer_ty, station_ty, writer_val, station_val, m_place, k_place, reach_place, counts_place, writer_place, stations_place, m_read, k_read, reach_read, writer_read, station_read, reach_stored, count_stored, station_stored, writer_stored, m_fits, k_fits, reach_fits, writer_holds, station_holds, writer_typed, station_typed, holds_with_reach, holds_with_count, holds_with_station, holds_with_writer, opens_panel, closes_panel, count_inside, station_inside}
+use Rattle.in_place.proofs.Steps.{span, of_local, hears, before as handing}
 use Rattle.in_place.proofs.Taken.{Entry, Exit, ends, in_place}
 use Rattle.in_place.specs.contracts.writers_step as self
 use Rattle.in_place.proofs.writers_step.Code as code
@@ -130,55 +130,55 @@ module _ {M : Type 1} {𝓤 : Ura M} (𝓛 : Logic 𝓤) (mem : Memory → SProp
   walk are =
       qed 𝓛 (Entry row N tt ps 𝓛 (self.clauses 𝓛 mem run) κs qs x a tt ∷ []) ∵ split ! $ split ! $ split ! $ move ! (2 ∷ []) $ fsplit ! $ fsplit3 ! $ drop ! $ move ! (0 ∷ 1 ∷ 3 ∷ []) $
       enter ! 𝓣.C 𝓣.Λ code.function (vptr b o ∷ args κs ps a) _ $ allocate ! τs [] _ (λ bs. alloc0 ! $ spread ! τs bs $ params1 ! $ pass1 ! (init ! 2 refl (tt, tt)) $ pass1 ! (init ! 4 refl ok.0) $ pass1 ! (init ! 6 refl ok.1.0) $ pass0 ! $
-      move ! (44 ∷ 45 ∷ 46 ∷ []) $ opens-panel ! tt h b o (λ is-h.
+      move ! (44 ∷ 45 ∷ 46 ∷ []) $ opens_panel ! tt h b o (λ is-h.
       -- [the record; what closes it at 1 to 3; local i at 2i + 4]
       -- the writer, and the place of the station whose command's change is underway
-      assigns ! (of_opd ! (load ! (from ! (hop ! (look ! 6 refl) (writer-place !))) (writer-read ! full_share h b o))) (from ! (stop !)) (init ! 12 refl (writer-typed 𝓛 h.writer (writer-holds h is-h))) $
-      calls-plain ! fm (Writer.the_row ∷ []) (LL.makes Writer.the_type Writer'.the_plain 𝓛, tt) (h.writer, tt) (writer_val h.writer ∷ [], tt) (writer-holds h is-h, tt) usize (vint w64) (uint_Tells w64) (λ r. (place.spec 𝓛 mem run tt (h.writer, tt)).ensures tt r)
-      (met-place ((tt, tt, tt, (h.writer, tt), (writer_val h.writer ∷ [], tt)), tt)) (and_then ! (of-local ! 13 refl) (no_more !)) (λ at is_at.
+      assigns ! (of_opd ! (load ! (from ! (hop ! (look ! 6 refl) (writer_place !))) (writer_read ! full_share h b o))) (from ! (stop !)) (init ! 12 refl (writer_typed 𝓛 h.writer (writer_holds h is-h))) $
+      calls_plain ! fm (Writer.the_row ∷ []) (LL.makes Writer.the_type Writer'.the_plain 𝓛, tt) (h.writer, tt) (writer_val h.writer ∷ [], tt) (writer_holds h is-h, tt) usize (vint w64) (uint_Tells w64) (λ r. (place.spec 𝓛 mem run tt (h.writer, tt)).ensures tt r)
+      (met-place ((tt, tt, tt, (h.writer, tt), (writer_val h.writer ∷ [], tt)), tt)) (and_then ! (of_local ! 13 refl) (no_more !)) (λ at is_at.
       hears ! (lasts_of tt (place.signature).params (place.ended).kept (h.writer, tt)) (λ _. at ≡ station_at h.writer.work) (λ _ at-is. drop ! $ land ! (from ! (stop !)) (init ! 14 refl (tt, record { fits = is_at.1 })) $
       -- the station in that place
-      assigns ! (bin ! (of-local ! 14 refl) (lit ! tt) (record { fits = station_inside at (inside at at-is) })) (from ! (stop !)) (init ! 20 refl (tt, record { fits = station_inside at (inside at at-is) })) $
-      assigns ! (addr ! (from ! (hop ! (look ! 6 refl) (stations-place !)))) (from ! (stop !)) (init ! 22 refl (tt, tt)) $
-      assigns ! (bin ! (of-local ! 22 refl) (of-local ! 20 refl) tt) (from ! (stop !)) (init ! 24 refl (tt, tt)) $
-      assigns ! (of_opd ! (load ! (from ! (hop ! (look ! 24 refl) (stop !))) (station-read h is-h ! b o at (inside at at-is)))) (from ! (stop !)) (init ! 26 refl (station-typed 𝓛 (found h before at) (station-holds h is-h at (inside at at-is)))) $
-      assigns ! (of_opd ! (of-local ! 26 refl)) (from ! (stop !)) (init ! 16 refl (station-typed 𝓛 (found h before at) (station-holds h is-h at (inside at at-is)))) $
+      assigns ! (bin ! (of_local ! 14 refl) (lit ! tt) (record { fits = station_inside at (inside at at-is) })) (from ! (stop !)) (init ! 20 refl (tt, record { fits = station_inside at (inside at at-is) })) $
+      assigns ! (addr ! (from ! (hop ! (look ! 6 refl) (stations_place !)))) (from ! (stop !)) (init ! 22 refl (tt, tt)) $
+      assigns ! (bin ! (of_local ! 22 refl) (of_local ! 20 refl) tt) (from ! (stop !)) (init ! 24 refl (tt, tt)) $
+      assigns ! (of_opd ! (load ! (from ! (hop ! (look ! 24 refl) (stop !))) (station_read h is-h ! b o at (inside at at-is)))) (from ! (stop !)) (init ! 26 refl (station_typed 𝓛 (found h before at) (station_holds h is-h at (inside at at-is)))) $
+      assigns ! (of_opd ! (of_local ! 26 refl)) (from ! (stop !)) (init ! 16 refl (station_typed 𝓛 (found h before at) (station_holds h is-h at (inside at at-is)))) $
       -- a reference to the counts; m, k and the reach
-      assigns ! (addr ! (from ! (hop ! (look ! 6 refl) (counts-place !)))) (from ! (stop !)) (init ! 28 refl (tt, tt)) $
-      assigns ! (of_opd ! (load ! (from ! (hop ! (look ! 6 refl) (m-place !))) (m-read ! full_share h b o))) (from ! (stop !)) (init ! 30 refl (tt, record { fits = m-fits h is-h })) $
-      assigns ! (of_opd ! (load ! (from ! (hop ! (look ! 6 refl) (k-place !))) (k-read ! full_share h b o))) (from ! (stop !)) (init ! 32 refl (tt, record { fits = k-fits h is-h })) $
-      assigns ! (of_opd ! (load ! (from ! (hop ! (look ! 6 refl) (reach-place !))) (reach-read ! full_share h b o))) (from ! (stop !)) (init ! 34 refl (tt, record { fits = reach_fits h is-h })) $
+      assigns ! (addr ! (from ! (hop ! (look ! 6 refl) (counts_place !)))) (from ! (stop !)) (init ! 28 refl (tt, tt)) $
+      assigns ! (of_opd ! (load ! (from ! (hop ! (look ! 6 refl) (m_place !))) (m_read ! full_share h b o))) (from ! (stop !)) (init ! 30 refl (tt, record { fits = m_fits h is-h })) $
+      assigns ! (of_opd ! (load ! (from ! (hop ! (look ! 6 refl) (k_place !))) (k_read ! full_share h b o))) (from ! (stop !)) (init ! 32 refl (tt, record { fits = k_fits h is-h })) $
+      assigns ! (of_opd ! (load ! (from ! (hop ! (look ! 6 refl) (reach_place !))) (reach_read ! full_share h b o))) (from ! (stop !)) (init ! 34 refl (tt, record { fits = reach_fits h is-h })) $
       -- the slots, lent again
       assigns ! (addr ! (from ! (fld ! refl (hop ! (look_in ! 8 (sub ! 0 refl (whole !))) (stop !))))) (from ! (stop !)) (init ! 36 refl (tt, tt)) $
-      assigns ! (agg ! (and_then ! (of-local ! 36 refl) (and_then ! (load ! (from ! (fld ! refl (stop !))) (look_in ! 8 (sub ! 1 refl (whole !)))) (no_more !)))) (from ! (stop !)) (init ! 38 refl (tt, ok.0.1)) $
+      assigns ! (agg ! (and_then ! (of_local ! 36 refl) (and_then ! (load ! (from ! (fld ! refl (stop !))) (look_in ! 8 (sub ! 1 refl (whole !)))) (no_more !)))) (from ! (stop !)) (init ! 38 refl (tt, ok.0.1)) $
       -- the step
       move ! (48 ∷ []) $ fsplit ! $ move ! (1 ∷ []) $ drop ! $ nothing ! $ move ! (1 ∷ 0 ∷ []) $ fjoin ! $ move ! (0 ∷ 49 ∷ []) $ use1 𝓛 (‵ (owns (Rows κs) (handed-on fit at) (vals fit at))) (handing 𝓛 Plain (MutSlice (named 1) κs.1.0 u64 ∷ [])
       (bool_Makes 𝓛, (uint_Makes 𝓛 w32, (uint_Makes 𝓛 w32, (uint_Makes 𝓛 w32, (LL.makes Writer.the_type Writer'.the_plain 𝓛, (LL.makes Station.the_type Station'.the_plain 𝓛, tt))))))
       (fit, (h.m, (h.k, (h.reach, (h.writer, (found h before at, tt)))))) (vbool fit ∷ [], (vint w32 h.m ∷ [], (vint w32 h.k ∷ [], (vint w32 h.reach ∷ [], (writer_val h.writer ∷ [], (station_val (found h before at) ∷ [], tt))))))
-      (refl, ((refl, m-fits h is-h), ((refl, k-fits h is-h), ((refl, reach_fits h is-h), (writer-holds h is-h, (station-holds h is-h at (inside at at-is), tt)))))) (a.0, tt) (slice_val a.0.ptr n ∷ [], tt)) $
-      calls-counting ! fm full_share h b o is-h (toks 𝓛 1 κs.1 qs.1) (Rows κs) (handed-on fit at) (vals fit at)
+      (refl, ((refl, m_fits h is-h), ((refl, k_fits h is-h), ((refl, reach_fits h is-h), (writer_holds h is-h, (station_holds h is-h at (inside at at-is), tt)))))) (a.0, tt) (slice_val a.0.ptr n ∷ [], tt)) $
+      calls_counting ! fm full_share h b o is-h (toks 𝓛 1 κs.1 qs.1) (Rows κs) (handed-on fit at) (vals fit at)
       Stepped.the_row (LL.val Stepped.the_type Stepped'.the_laws) (LL.tells Stepped.the_type Stepped'.the_laws) (λ ν γ r. (step.spec 𝓛 mem run (ν ∷ [], κs.1) (asked γ fit at)).ensures tt r)
       (λ ν γ. met-step (((ν ∷ [], κs.1), (full_share, qs.1), tt, asked γ fit at, (vptr b (o + 12) ∷ [], vals fit at)), tt))
-      (λ ν γ. and_then ! (of-local ! 30 refl) (and_then ! (of-local ! 12 refl) (and_then ! (of-local ! 32 refl) (and_then ! (of-local ! 34 refl) (and_then ! (of-local ! 36 refl) (and_then ! (of-local ! 14 refl) (and_then ! (of-local ! 18 refl) (and_then ! (of-local ! 40 refl) (no_more !))))))))) (λ ν γ next is-next.
+      (λ ν γ. and_then ! (of_local ! 30 refl) (and_then ! (of_local ! 12 refl) (and_then ! (of_local ! 32 refl) (and_then ! (of_local ! 34 refl) (and_then ! (of_local ! 36 refl) (and_then ! (of_local ! 14 refl) (and_then ! (of_local ! 18 refl) (and_then ! (of_local ! 40 refl) (no_more !))))))))) (λ ν γ next is-next.
       hears ! (lasts_of (ν ∷ [], κs.1) (step.signature).params (step.ended).kept (asked γ fit at)) (λ ws. paper_stores next ws.1.1.1.1.1.1.1.0 ≡ handed h before fit at) (λ ws next-is.
       fsplit ! $ drop ! $ fsplit ! $ drop ! $ fsplit ! $ drop ! $ fsplit ! $ drop ! $ fsplit ! $ drop ! $ fsplit ! $ drop ! $ fsplit ! $ drop ! $ move ! (2 ∷ []) $
       -- [the record; what is said of the last slots; the tokens; what closes the record at 3 to 5; local i at 2i + 6]
       land ! (from ! (stop !)) (init ! 20 refl ((LL.lawful Stepped.the_type Stepped'.the_laws 𝓛).typed next _ is-next).0) $
       -- what it hands back is stored: the reach, a count, a station, the writer
-      assigns ! (of_opd ! (load ! (from ! (fld ! {τ = ty_int w32} {d = 44} refl (stop !))) (look_in ! 20 (sub ! 1 {τ = ty_int w32} {d = 44} refl (whole !))))) (from ! (hop ! (look ! 8 refl) (reach-place !))) (reach-stored ! h b o next.reach (tt, record { fits = (reach-is next is-next).1 })) $
+      assigns ! (of_opd ! (load ! (from ! (fld ! {τ = ty_int w32} {d = 44} refl (stop !))) (look_in ! 20 (sub ! 1 {τ = ty_int w32} {d = 44} refl (whole !))))) (from ! (hop ! (look ! 8 refl) (reach_place !))) (reach_stored ! h b o next.reach (tt, record { fits = (reach-is next is-next).1 })) $
       assigns ! (bin ! (load ! (from ! (fld ! {τ = ty_int w64} {d = 48} refl (stop !))) (look_in ! 20 (sub ! 2 {τ = ty_int w64} {d = 48} refl (whole !)))) (lit ! tt) (record { fits = count_inside next.at (counted fit at next ws.1.1.1.1.1.1.1.0 next-is) })) (from ! (stop !)) (store ! 22 refl (tt, record { fits = count_inside next.at (counted fit at next ws.1.1.1.1.1.1.1.0 next-is) })) $
-      assigns ! (addr ! (from ! (hop ! (look ! 8 refl) (counts-place !)))) (from ! (stop !)) (init ! 42 refl (tt, tt)) $
-      assigns ! (bin ! (of-local ! 42 refl) (of-local ! 22 refl) tt) (from ! (stop !)) (init ! 44 refl (tt, tt)) $
-      assigns ! (of_opd ! (load ! (from ! (fld ! {τ = ty_int w32} {d = 56} refl (stop !))) (look_in ! 20 (sub ! 3 {τ = ty_int w32} {d = 56} refl (whole !))))) (from ! (hop ! (look ! 44 refl) (stop !))) (count-stored (h₁ h at next) (holds₁ is-h next is-next at) ! b o next.at (counted fit at next ws.1.1.1.1.1.1.1.0 next-is) next.count (tt, record { fits = (count-is next is-next).1 })) $
-      assigns ! (bin ! (of-local ! 16 refl) (lit ! tt) (record { fits = station_inside at (inside at at-is) })) (from ! (stop !)) (store ! 22 refl (tt, record { fits = station_inside at (inside at at-is) })) $
-      assigns ! (addr ! (from ! (hop ! (look ! 8 refl) (stations-place !)))) (from ! (stop !)) (init ! 46 refl (tt, tt)) $
-      assigns ! (bin ! (of-local ! 46 refl) (of-local ! 22 refl) tt) (from ! (stop !)) (init ! 48 refl (tt, tt)) $
-      assigns ! (of_opd ! (load ! (from ! (fld ! {τ = station_ty} {d = 60} refl (stop !))) (look_in ! 20 (sub ! 4 {τ = station_ty} {d = 60} refl (whole !))))) (from ! (hop ! (look ! 48 refl) (stop !))) (station-stored (h₂ h at next) (holds₂ is-h next is-next at) ! b o at (inside at at-is) next.station (station-typed 𝓛 next.station (station-is next is-next))) $
-      assigns ! (of_opd ! (load ! (from ! (fld ! {τ = writer_ty} {d = 0} refl (stop !))) (look_in ! 20 (sub ! 0 {τ = writer_ty} {d = 0} refl (whole !))))) (from ! (hop ! (look ! 8 refl) (writer-place !))) (writer-stored ! (h₃ h at next) b o next.writer (writer-typed 𝓛 next.writer (writer-is next is-next))) $
+      assigns ! (addr ! (from ! (hop ! (look ! 8 refl) (counts_place !)))) (from ! (stop !)) (init ! 42 refl (tt, tt)) $
+      assigns ! (bin ! (of_local ! 42 refl) (of_local ! 22 refl) tt) (from ! (stop !)) (init ! 44 refl (tt, tt)) $
+      assigns ! (of_opd ! (load ! (from ! (fld ! {τ = ty_int w32} {d = 56} refl (stop !))) (look_in ! 20 (sub ! 3 {τ = ty_int w32} {d = 56} refl (whole !))))) (from ! (hop ! (look ! 44 refl) (stop !))) (count_stored (h₁ h at next) (holds₁ is-h next is-next at) ! b o next.at (counted fit at next ws.1.1.1.1.1.1.1.0 next-is) next.count (tt, record { fits = (count_is next is-next).1 })) $
+      assigns ! (bin ! (of_local ! 16 refl) (lit ! tt) (record { fits = station_inside at (inside at at-is) })) (from ! (stop !)) (store ! 22 refl (tt, record { fits = station_inside at (inside at at-is) })) $
+      assigns ! (addr ! (from ! (hop ! (look ! 8 refl) (stations_place !)))) (from ! (stop !)) (init ! 46 refl (tt, tt)) $
+      assigns ! (bin ! (of_local ! 46 refl) (of_local ! 22 refl) tt) (from ! (stop !)) (init ! 48 refl (tt, tt)) $
+      assigns ! (of_opd ! (load ! (from ! (fld ! {τ = station_ty} {d = 60} refl (stop !))) (look_in ! 20 (sub ! 4 {τ = station_ty} {d = 60} refl (whole !))))) (from ! (hop ! (look ! 48 refl) (stop !))) (station_stored (h₂ h at next) (holds₂ is-h next is-next at) ! b o at (inside at at-is) next.station (station_typed 𝓛 next.station (station-is next is-next))) $
+      assigns ! (of_opd ! (load ! (from ! (fld ! {τ = writer_ty} {d = 0} refl (stop !))) (look_in ! 20 (sub ! 0 {τ = writer_ty} {d = 0} refl (whole !))))) (from ! (hop ! (look ! 8 refl) (writer_place !))) (writer_stored ! (h₃ h at next) b o next.writer (writer_typed 𝓛 next.writer (writer-is next is-next))) $
       assigns ! (of_opd ! (load ! (from ! (fld ! {τ = lone N.mir} {d = 80} refl (stop !))) (look_in ! 20 (sub ! 5 {τ = lone N.mir} {d = 80} refl (whole !))))) (from ! (stop !)) (init ! 6 refl (answer_typed next is-next)) $
-      move ! (0 ∷ 3 ∷ 4 ∷ 5 ∷ []) $ closes-panel ! tt (after h at next) b o (holds-with-writer (h₃ h at next) (holds₃ is-h next is-next at) next.writer (writer-is next is-next)) $
+      move ! (0 ∷ 3 ∷ 4 ∷ 5 ∷ []) $ closes_panel ! tt (after h at next) b o (holds_with_writer (h₃ h at next) (holds₃ is-h next is-next at) next.writer (writer-is next is-next)) $
       -- [what the reference owns at 0 and 1; its token; what is said of the last slots; the tokens; local i at 2i + 5]
-      returns ! (look ! 5 refl) $ move ! (span 5 44) $ gather ! τs bs (some _ ∷ some _ ∷ some _ ∷ some _ ∷ some _ ∷ some _ ∷ some _ ∷ some _ ∷ some _ ∷ some _ ∷ some _ ∷ some _ ∷ some _ ∷ some _ ∷ some _ ∷ some _ ∷ some _ ∷ some _ ∷ some _ ∷ some _ ∷ some _ ∷ some _ ∷ []) $ free-rooms ! τs bs [] $ free0 ! $
+      returns ! (look ! 5 refl) $ move ! (span 5 44) $ gather ! τs bs (some _ ∷ some _ ∷ some _ ∷ some _ ∷ some _ ∷ some _ ∷ some _ ∷ some _ ∷ some _ ∷ some _ ∷ some _ ∷ some _ ∷ some _ ∷ some _ ∷ some _ ∷ some _ ∷ some _ ∷ some _ ∷ some _ ∷ some _ ∷ some _ ∷ some _ ∷ []) $ free_rooms ! τs bs [] $ free0 ! $
       -- nothing is said of the last flag
       move ! (3 ∷ []) $ fsplit ! $ nothing ! $ move ! (0 ∷ 2 ∷ []) $ fjoin ! $ move ! (1 ∷ 0 ∷ []) $ fjoin ! $ keep ! (1 ∷ 3 ∷ 4 ∷ 0 ∷ []) $ use0 𝓛 (raw (emp 𝓤)) (id⊢ 𝓤 _) $ move ! (1 ∷ 2 ∷ 3 ∷ 0 ∷ 4 ∷ []) $ by ! (ends row N tt ps 𝓛 (self.clauses 𝓛 mem run) κs qs x a tt (EL.makes StepAnswer.the_type StepAnswer'.the_plain 𝓛) next.answer _ (answer_is next is-next) (after h at next) (ws.1.1.1.1.1.1.1.0, (tt, tt)) (emp 𝓤) (fact_i 𝓤 _ (emp 𝓤) (so h before fit at next _ at-is next-is)))))))))
     where
@@ -229,8 +229,8 @@ module _ {M : Type 1} {𝓤 : Ura M} (𝓛 : Logic 𝓤) (mem : Memory → SProp
       reach-is : (next : Next) → Handed next → Is u32 next.reach (vint w32 next.reach ∷ [])
       reach-is next is = (LL.owed Stepped.the_type Stepped'.the_laws next _ is).1.0
 
-      count-is : (next : Next) → Handed next → Is u32 next.count (vint w32 next.count ∷ [])
-      count-is next is = (LL.owed Stepped.the_type Stepped'.the_laws next _ is).1.1.1.0
+      count_is : (next : Next) → Handed next → Is u32 next.count (vint w32 next.count ∷ [])
+      count_is next is = (LL.owed Stepped.the_type Stepped'.the_laws next _ is).1.1.1.0
 
       station-is : (next : Next) → Handed next → Is Station.the_row next.station (station_val next.station ∷ [])
       station-is next is = (LL.owed Stepped.the_type Stepped'.the_laws next _ is).1.1.1.1.0
@@ -242,13 +242,13 @@ module _ {M : Type 1} {𝓤 : Ura M} (𝓛 : Logic 𝓤) (mem : Memory → SProp
       answer_typed next is = ((EL.lawful StepAnswer.the_type StepAnswer'.the_laws 𝓛 tt).typed next.answer _ (answer_is next is)).0
 
       holds₁ : Holds h → (next : Next) → Handed next → (at : ℕ) → Holds (h₁ h at next)
-      holds₁ is-h next is at = holds-with-reach h is-h next.reach (reach-is next is).1
+      holds₁ is-h next is at = holds_with_reach h is-h next.reach (reach-is next is).1
 
       holds₂ : Holds h → (next : Next) → Handed next → (at : ℕ) → Holds (h₂ h at next)
-      holds₂ is-h next is at = holds-with-count (h₁ h at next) (holds₁ is-h next is at) next.at next.count (count-is next is).1
+      holds₂ is-h next is at = holds_with_count (h₁ h at next) (holds₁ is-h next is at) next.at next.count (count_is next is).1
 
       holds₃ : Holds h → (next : Next) → Handed next → (at : ℕ) → Holds (h₃ h at next)
-      holds₃ is-h next is at = holds-with-station (h₂ h at next) (holds₂ is-h next is at) at next.station (station-is next is)
+      holds₃ is-h next is at = holds_with_station (h₂ h at next) (holds₂ is-h next is at) at next.station (station-is next is)
 
       counted : (fit : Bool) (at : ℕ) (next : Next) (slots : List ℕ) → paper_stores next slots ≡ handed h before fit at → next.at < 64
       counted fit at next slots next-is = count-below h before fit at next slots next-is

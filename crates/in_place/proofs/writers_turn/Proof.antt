@@ -43,12 +43,12 @@ use Rattle.in_place.proofs.Frame.{spread}
 use Rattle.in_place.proofs.HandedOn.{ends_so}
 use Rattle.in_place.proofs.Locals.{allocate}
 use Rattle.in_place.proofs.Params.{slots, tys, args, Related, well_typed}
-use Rattle.in_place.proofs.RecordFields.{row, place-place, place-stored, holds-with-place, opens-panel, closes-panel}
+use Rattle.in_place.proofs.RecordFields.{row, place_place, place_stored, holds_with_place, opens_panel, closes_panel}
 use Rattle.in_place.proofs.Results.{step_result, turn_result}
-use Rattle.in_place.proofs.Steps.{span, of-local}
+use Rattle.in_place.proofs.Steps.{span, of_local}
 use Rattle.in_place.proofs.Taken.{Entry, Exit, in_place}
-use Rattle.in_place.proofs.TurnAnswered.{answers-turn}
-use Rattle.in_place.proofs.WritersStep.{lent, steps-writer}
+use Rattle.in_place.proofs.TurnAnswered.{answers_turn}
+use Rattle.in_place.proofs.WritersStep.{lent, steps_writer}
 use Rattle.in_place.specs.contracts.writers_turn as self
 use Rattle.in_place.proofs.writers_turn.Code as code
 use Rattle.in_place.specs.contracts.writers_turn.Key.{name as #self}
@@ -71,17 +71,17 @@ module _ {M : Type 1} {𝓤 : Ura M} (𝓛 : Logic 𝓤) (mem : Memory → SProp
   walk are =
       qed 𝓛 (Entry row turn_result.row tt lent 𝓛 (self.clauses 𝓛 mem run) κs qs x a tt ∷ []) ∵ split ! $ split ! $ split ! $ move ! (2 ∷ []) $ fsplit ! $ fsplit3 ! $ drop ! $ move ! (0 ∷ 1 ∷ 3 ∷ []) $
       enter ! 𝓣.C 𝓣.Λ code.function (vptr b o ∷ args κs lent a) _ $ allocate ! τs [] _ (λ bs. alloc0 ! $ spread ! τs bs $ params1 ! $ pass1 ! (init ! 2 refl (tt, tt)) $ pass1 ! (init ! 4 refl ok.0) $ pass0 ! $
-      move ! (14 ∷ 15 ∷ 16 ∷ []) $ opens-panel ! tt h b o (λ is-h.
+      move ! (14 ∷ 15 ∷ 16 ∷ []) $ opens_panel ! tt h b o (λ is-h.
       -- [the record; what closes it at 1 to 3; local i at 2i + 4]
-      assigns ! (of_opd ! (lit ! tt)) (from ! (hop ! (look ! 6 refl) (place-place !))) (place-stored ! h b o 1 (tt, record { fits = lit< tt })) $ closes-panel ! tt (with_place h 1) b o (holds-with-place h is-h 1 (lit< tt)) $
+      assigns ! (of_opd ! (lit ! tt)) (from ! (hop ! (look ! 6 refl) (place_place !))) (place_stored ! h b o 1 (tt, record { fits = lit< tt })) $ closes_panel ! tt (with_place h 1) b o (holds_with_place h is-h 1 (lit< tt)) $
       -- [what the reference owns at 0 and 1; its token; local i at 2i + 3; what the slots own at 17; their token]: the two references are handed on
       assigns ! (addr ! (from ! (hop ! (look ! 5 refl) (stop !)))) (from ! (stop !)) (init ! 11 refl (tt, tt)) $
       assigns ! (addr ! (from ! (fld ! refl (hop ! (look_in ! 7 (sub ! 0 refl (whole !))) (stop !))))) (from ! (stop !)) (init ! 13 refl (tt, tt)) $
-      assigns ! (agg ! (and_then ! (of-local ! 13 refl) (and_then ! (load ! (from ! (fld ! refl (stop !))) (look_in ! 7 (sub ! 1 refl (whole !)))) (no_more !)))) (from ! (stop !)) (init ! 15 refl (tt, ok.0.1)) $
-      move ! (0 ∷ 1 ∷ 2 ∷ 17 ∷ 18 ∷ []) $ steps-writer 𝓛 mem run 𝓣 met-step κs qs (at_last x (with_place h 1)) a.0 true (and_then ! (of-local ! 9 refl) (and_then ! (of-local ! 13 refl) (and_then ! (true_lit !) (no_more !)))) (λ w is-w last after w-is.
+      assigns ! (agg ! (and_then ! (of_local ! 13 refl) (and_then ! (load ! (from ! (fld ! refl (stop !))) (look_in ! 7 (sub ! 1 refl (whole !)))) (no_more !)))) (from ! (stop !)) (init ! 15 refl (tt, ok.0.1)) $
+      move ! (0 ∷ 1 ∷ 2 ∷ 17 ∷ 18 ∷ []) $ steps_writer 𝓛 mem run 𝓣 met-step κs qs (at_last x (with_place h 1)) a.0 true (and_then ! (of_local ! 9 refl) (and_then ! (of_local ! 13 refl) (and_then ! (true_lit !) (no_more !)))) (λ w is-w last after w-is.
       -- [the record's last value; that of the slots; the token; the tokens; local i at 2i + 4]
       land ! (from ! (stop !)) (init ! 10 refl (step_result.typed 𝓛 w is-w).0) $
-      answers-turn 𝓛 mem run 𝓣 met-answer 0 (lit< tt) w is-w (and_then ! (lit ! tt) (and_then ! (of-local ! 11 refl) (no_more !))) (λ t is-t t-is. land ! (from ! (stop !)) (init ! 4 refl (turn_result.typed 𝓛 t is-t).0) $
+      answers_turn 𝓛 mem run 𝓣 met-answer 0 (lit< tt) w is-w (and_then ! (lit ! tt) (and_then ! (of_local ! 11 refl) (no_more !))) (λ t is-t t-is. land ! (from ! (stop !)) (init ! 4 refl (turn_result.typed 𝓛 t is-t).0) $
       returns ! (look ! 4 refl) $ move ! (span 4 14) $
       ends_so ! turn_result lent (self.clauses 𝓛 mem run) κs qs x a tt τs bs (some _ ∷ some _ ∷ some _ ∷ some _ ∷ some _ ∷ some _ ∷ some _ ∷ []) t is-t last (after, tt) (fact_i 𝓤 _ (emp 𝓤) (so h last a.0.now after w t w-is t-is)) _))))
     where

@@ -14,7 +14,7 @@ use Rattle.in_place.proofs.step_writer.Symbol.{name as #callee}
 use Rattle.in_place.proofs.Panel.{step_outcome}
 use Rattle.in_place.proofs.Params.{Param, slice_mut}
 use Rattle.in_place.proofs.Passing.{lent}
-use Rattle.lent_record.proofs.Lent.{lends, reference, at-reference, at_exit}
+use Rattle.lent_record.proofs.Lent.{lends, reference, at_reference, at_exit}
 use Rattle.lent_record.proofs.Panel.{step_made}
 use Rattle.lent_record.specs.contracts.step_writer as self
 use Rattle.lent_record.proofs.step_writer.Code as code
@@ -31,4 +31,4 @@ step-writer-spec 𝓤 𝓛 𝓜 𝓡 =
     (record { says = λ κs h a w h' l. (callee.clauses 𝓛 𝓜.mem 𝓡.run (0 ∷ [], κs) (reference step_outcome step_made ps h 0 0, a)).ensures tt w (at_exit step_outcome step_made ps κs a h h' l); so = λ κs h a γ h' w l. id⊢ 𝓤 _ })
     code.env #self #callee code.function (code.unfolded 𝓤 𝓛.H 𝓜 𝓡) refl
     (λ κs qs h a γ ν b δ. cited 𝓤 𝓛.H (triple_of 𝓛 callee.signature (callee.spec 𝓛 𝓜.mem 𝓡.run)) 𝓜 𝓡 code.env #callee callee-def.routine refl (callee-thm.met 𝓤 𝓛 𝓜 𝓡)
-    (((ν ∷ [], κs), (full_share, qs), tt, (reference step_outcome step_made ps h b δ, a), at-reference step_outcome step_made ps κs a b), tt))
+    (((ν ∷ [], κs), (full_share, qs), tt, (reference step_outcome step_made ps h b δ, a), at_reference step_outcome step_made ps κs a b), tt))

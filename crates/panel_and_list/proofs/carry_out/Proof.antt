@@ -29,9 +29,9 @@ returns : tie.Need-returns
 returns c =
     let a = c.before.before.before.before.before.before.before.before.before.before.before.before.before.before.before.before.before.before.before.before.args in
     let done = c.before.before.before.before.before.before.before.before.before.before.before.before.apply in
-    let feeds = c.before.before.before.before.before.before.before.before.feeds-now.ensures a.frame.now in
+    let feeds = c.before.before.before.before.before.before.before.before.feeds_now_lem.ensures a.frame.now in
     let notes = c.before.before.before.before.before.before.before.notes-now in
-    let rows = c.before.before.before.before.rows-now in
+    let rows = c.before.before.before.before.rows_now_lem in
     carried_out a.before a.slots.now a.words.now a.places.now a.call a.frame.now _ _ _ _ feeds done.ensures rows.ensures notes.ensures
 
 pub carry-out-spec : {M : Type 1} → statement M

@@ -3,7 +3,7 @@ use mathlib.Core.Path.{◌∙◌, sym}
 use borrow.Author.Rules.{rules}
 use Rattle.conditions.specs.Conditions.{both}
 use Rattle.plain_rows.specs.Fed.{fed_rows}
-use Rattle.plain_rows.proofs.FedLaws.{true-room, misfits}
+use Rattle.plain_rows.proofs.FedLaws.{true_room, misfits}
 use Rattle.plain_rows.proofs.feed.Statement.{statement}
 use Rattle.plain_rows.proofs.feed.Tie as tie
 
@@ -13,7 +13,7 @@ has-room-requires c κs = search rules
 feed-rows-requires : tie.Need-feed-rows-requires
 feed-rows-requires c κs =
     let a = c.before.before.before.before.before.before.before.before.args in
-    true-room a.words.now a.places.now a.count (sym c.before.before.before.has_room.ensures ∙ c.before.before.if1.true)
+    true_room a.words.now a.places.now a.count (sym c.before.before.before.has_room.ensures ∙ c.before.before.if1.true)
 
 same_length : tie.Need-same-length
 same_length c = search rules

@@ -3,7 +3,7 @@ use borrow.Author.Rules.{rules}
 use Rattle.answers.specs.Answers.{ended_with}
 use Rattle.plain_list.specs.PlainList.{feed}
 use Rattle.plain_rows.specs.Fed.{fed_rows}
-use Rattle.plain_rows.proofs.FedLaws.{feeds-nothing}
+use Rattle.plain_rows.proofs.FedLaws.{feeds_nothing}
 use Rattle.plain_rows.proofs.feed_rows.Statement.{statement}
 use Rattle.plain_rows.proofs.feed_rows.Tie as tie
 
@@ -35,7 +35,7 @@ returns : tie.Need-returns
 unfolding fed_rows feed
 returns c =
     let a = c.before.before.before.before.before.args in
-    feeds-nothing a.words.now a.places.now a.count c.before.before.before.before.before.requires c.unknown.result _ (ended_with 7) c.unknown.ensures.0 c.unknown.ensures.1 (rw c.before.enum_told.given.1)
+    feeds_nothing a.words.now a.places.now a.count c.before.before.before.before.before.requires c.unknown.result _ (ended_with 7) c.unknown.ensures.0 c.unknown.ensures.1 (rw c.before.enum_told.given.1)
 
 same_length : tie.Need-same-length
 same_length c = search rules

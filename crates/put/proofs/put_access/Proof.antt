@@ -47,7 +47,7 @@ unfolding put_access put_stage_access
 returns-3 c =
     let a = c.before.before.before.before.before.args in
     rw c.before.before.stage3.given.1
-    (c.Store-word.ensures ∙ ap (store_word a.m a.put.point c.before.before.stage3.given.0.0.index) c.before.before.before.before.word-of.ensures)
+    (c.Store-word.ensures ∙ ap (store_word a.m a.put.point c.before.before.stage3.given.0.0.index) c.before.before.before.before.word_of_lem.ensures)
 
 returns-4 : tie.Need-returns-4
 unfolding exceeds put_access put_stage_access
@@ -58,7 +58,7 @@ unfolding exceeds put_access put_stage_access
 returns-5 c =
     let a = c.before.before.before.before.before.before.args in
     rw (c.before.before.before.stage4.given.1, le-ltb a.reach _ c.before.if1.false)
-    (c.store-word2.ensures ∙ ap (store_word a.m a.put.point c.before.before.before.stage4.given.0.0) c.before.before.before.before.before.word-of.ensures)
+    (c.store-word2.ensures ∙ ap (store_word a.m a.put.point c.before.before.before.stage4.given.0.0) c.before.before.before.before.before.word_of_lem.ensures)
 
 pub put-access-spec : {M : Type 1} → statement M
 put-access-spec =

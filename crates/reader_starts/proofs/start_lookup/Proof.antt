@@ -4,7 +4,7 @@ use borrow.Author.Rules.{rules}
 use Rattle.answers.specs.Answers.{outcome, paper_start}
 use Rattle.reader_step.specs.Reader.{after_step}
 use Rattle.reader_starts.specs.Starts.{lookup_work}
-use Rattle.reader_starts.proofs.StartWork.{lookup-by-work}
+use Rattle.reader_starts.proofs.StartWork.{lookup_by_work}
 use Rattle.reader_starts.proofs.start_lookup.Statement.{statement}
 use Rattle.reader_starts.proofs.start_lookup.Tie as tie
 
@@ -30,7 +30,7 @@ returns c =
     let work = c.before.before.work-of.ensures in
     (λ j. outcome (c.finish.ensures.0 j) s (paper_start (c.finish.ensures.1 j)))
     ∙ ap (after_step p s a.reader) (c.before.lookup-started.ensures ∙ (λ j. lookup_work (fits j) a.reader a.point (work j)))
-    ∙ lookup-by-work p s a.reader a.point
+    ∙ lookup_by_work p s a.reader a.point
 
 pub start-lookup-spec : {M : Type 1} → statement M
 start-lookup-spec =

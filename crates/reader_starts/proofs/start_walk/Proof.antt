@@ -4,7 +4,7 @@ use borrow.Author.Rules.{rules}
 use Rattle.answers.specs.Answers.{outcome, paper_start}
 use Rattle.reader_step.specs.Reader.{after_step}
 use Rattle.reader_starts.specs.Starts.{walk_work}
-use Rattle.reader_starts.proofs.StartWork.{walk-by-work}
+use Rattle.reader_starts.proofs.StartWork.{walk_by_work}
 use Rattle.reader_starts.proofs.start_walk.Statement.{statement}
 use Rattle.reader_starts.proofs.start_walk.Tie as tie
 
@@ -30,7 +30,7 @@ returns c =
     let work = c.before.before.work-of.ensures in
     (λ j. outcome (c.finish.ensures.0 j) s (paper_start (c.finish.ensures.1 j)))
     ∙ ap (after_step p s a.reader) (c.before.walk-started.ensures ∙ (λ j. walk_work (fits j) a.reader (work j)))
-    ∙ walk-by-work p s a.reader
+    ∙ walk_by_work p s a.reader
 
 pub start-walk-spec : {M : Type 1} → statement M
 start-walk-spec =

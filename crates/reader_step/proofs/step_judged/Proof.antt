@@ -4,7 +4,7 @@ use borrow.Author.Rules.{rules}
 use Rattle.record.specs.declared.Record.{Record}
 use Rattle.answers.specs.Answers.{outcome, paper_step}
 use Rattle.reader_step.specs.Reader.{after_step, step_work}
-use Rattle.reader_step.proofs.StepWork.{step-by-work}
+use Rattle.reader_step.proofs.StepWork.{step_by_work}
 use Rattle.reader_step.proofs.step_judged.Statement.{statement}
 use Rattle.reader_step.proofs.step_judged.Tie as tie
 
@@ -26,7 +26,7 @@ returns c =
     let work = c.before.before.before.work-of.ensures in
     ap (λ (q : Record). outcome q s (paper_step c.before.before.step-work.result.answer)) c.with-work.ensures
     ∙ ap (after_step p s a.reader) (c.before.before.step-work.ensures ∙ (λ j. step_work a.fits a.reader p.m p.k p.reach (work j) s))
-    ∙ step-by-work p s a.reader a.fits
+    ∙ step_by_work p s a.reader a.fits
 
 pub step-judged-spec : {M : Type 1} → statement M
 step-judged-spec =

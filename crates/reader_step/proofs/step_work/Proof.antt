@@ -6,7 +6,7 @@ use Rattle.refusal.specs.Refusals.{paper_judged}
 use Rattle.record.specs.declared.ReaderWork.{ReaderWork}
 use Rattle.counting.specs.Steps.{reader_counted}
 use Rattle.answers.specs.Answers.{unless_refused}
-use Rattle.answers.proofs.AnswerLaws.{refused-call, allowed-call}
+use Rattle.answers.proofs.AnswerLaws.{refused_call, allowed_call}
 use Rattle.reader_step.specs.Reader.{effect_of, work_runs, step_work}
 use Rattle.reader_step.proofs.step_work.Statement.{statement}
 use Rattle.reader_step.proofs.step_work.Tie as tie
@@ -36,7 +36,7 @@ returns c =
     let w = a.found.work in
     let done = work_runs a.m a.reach (reader_counted a.k w) a.slots.now in
     let verdict = sym (ap paper_judged c.before.refusal.given.1) ∙ c.before.before.before.judge-step.ensures in
-    sym (refused-call (effect_of w) done c.before.refusal.given.0.0)
+    sym (refused_call (effect_of w) done c.before.refusal.given.0.0)
     ∙ ap (λ (n : ℕ). unless_refused n (effect_of w) done) verdict
 
 returns-2 : tie.Need-returns-2
@@ -49,7 +49,7 @@ returns-2 c =
     c.stepped.ensures
     ∙ c.before.run_step.ensures
     ∙ ap (λ (work : ReaderWork). work_runs a.m a.reach work a.slots.now) c.before.before.reader-counted.ensures
-    ∙ sym (allowed-call (effect_of w) done)
+    ∙ sym (allowed_call (effect_of w) done)
     ∙ ap (λ (n : ℕ). unless_refused n (effect_of w) done) verdict
 
 pub step-work-spec : {M : Type 1} → statement M

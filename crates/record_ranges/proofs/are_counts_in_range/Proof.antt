@@ -8,7 +8,7 @@ use borrow.Author.Rules.{rules}
 use lib.ListN.{length, take, drop, length-take}
 use lib.Dec.{leb}
 use Rattle.record_ranges.specs.Ranges.{all, counts_in_range}
-use Rattle.record_ranges.proofs.All.{first_done, first_passes, first-fails, all_done}
+use Rattle.record_ranges.proofs.All.{first_done, first_passes, first_fails, all_done}
 use Rattle.record_ranges.proofs.are_counts_in_range.Statement.{statement}
 use Rattle.record_ranges.proofs.are_counts_in_range.Tie as tie
 
@@ -42,7 +42,7 @@ unfolding counts_in_range
 returns-2 c =
     let a = c.before.before.before.before.before.before.args in
     let l = c.before.before.before.before.loop in
-    sym (sym l.invariant.1 ∙ first-fails (fits a.m) a.counts.now a.k l.i (omega arith) (omega arith) (lt-leb _ a.m c.if2.true))
+    sym (sym l.invariant.1 ∙ first_fails (fits a.m) a.counts.now a.k l.i (omega arith) (omega arith) (lt-leb _ a.m c.if2.true))
 
 add-i : tie.Need-overflow-add-i invariant-loop decreases-loop
 add-i c = search rules

@@ -7,7 +7,7 @@ use borrow.Author.Tests.{not-true, not-false}
 use lib.ListN.{length, drop}
 use Rattle.record.specs.Parts.{idle_reader}
 use Rattle.record_ranges.specs.Ranges.{all, reader_in_range, readers_in_range}
-use Rattle.record_ranges.proofs.All.{all-passes, all-fails, all_done}
+use Rattle.record_ranges.proofs.All.{all_passes, all_fails, all_done}
 use Rattle.record_ranges.proofs.are_readers_in_range.Statement.{statement}
 use Rattle.record_ranges.proofs.are_readers_in_range.Tie as tie
 
@@ -36,7 +36,7 @@ returns c =
     let l = c.before.before.before.before.loop in
     sym
     (sym l.invariant.2
-    ∙ all-fails (reader_in_range a.m a.k) a.t1 l.i idle_reader (omega arith) (sym c.before.is-reader-in-range.ensures ∙ not-true _ c.if1.true))
+    ∙ all_fails (reader_in_range a.m a.k) a.t1 l.i idle_reader (omega arith) (sym c.before.is-reader-in-range.ensures ∙ not-true _ c.if1.true))
 
 add-i : tie.Need-overflow-add-i invariant-loop decreases-loop
 add-i c = search rules
@@ -50,7 +50,7 @@ loop-again c =
     let l = c.before.before.before.before.loop in (
       search rules,
       l.invariant.1,
-      all-passes (reader_in_range a.m a.k) a.t1 l.i idle_reader (omega arith) (sym c.before.is-reader-in-range.ensures ∙ not-false _ c.if1.false) ∙ l.invariant.2,
+      all_passes (reader_in_range a.m a.k) a.t1 l.i idle_reader (omega arith) (sym c.before.is-reader-in-range.ensures ∙ not-false _ c.if1.false) ∙ l.invariant.2,
     )
 
 returns-2 : tie.Need-returns-2 invariant-loop decreases-loop

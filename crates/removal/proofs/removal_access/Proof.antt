@@ -34,7 +34,7 @@ returns-2 c = rw c.before.before.stage2.given.1 c.Store-word.ensures
 
 returns-3 : tie.Need-returns-3
 unfolding removal_access removal_stage_access
-returns-3 c = rw c.before.enum_told.given.1 (ap StoreReach c.largest-counted.ensures)
+returns-3 c = rw c.before.enum_told.given.1 (ap StoreReach c.largest_counted_lem.ensures)
 
 pub removal-access-spec : {M : Type 1} → statement M
 removal-access-spec =

@@ -5,7 +5,7 @@ use native.Mathlib.Omega.{arith}
 use Rattle.conditions.specs.Conditions.{both}
 use Rattle.plain_rows.specs.Rows.{rows_of}
 use Rattle.rows_shown.specs.Verdict.{stands, rows_stand}
-use Rattle.rows_shown.proofs.VerdictLaws.{stand-more}
+use Rattle.rows_shown.proofs.VerdictLaws.{stand_more}
 use borrow.Author.Rules.{rules}
 use Rattle.rows_shown.proofs.do_rows_stand.Statement.{statement}
 use Rattle.rows_shown.proofs.do_rows_stand.Tie as tie
@@ -45,7 +45,7 @@ loop-again c =
       search rules,
       c.both_hold.ensures
           ∙ ap₂ both c.before.before.before.before.before.loop.invariant.1 (c.before.stands.ensures ∙ ap₂ (stands a.slots.now) c.before.before.before.place_at.ensures c.before.before.word_at.ensures)
-          ∙ stand-more a.words.now a.places.now row a.slots.now,
+          ∙ stand_more a.words.now a.places.now row a.slots.now,
     )
 
 returns : tie.Need-returns invariant-loop decreases-loop

@@ -8,7 +8,7 @@ use lib.Dec.{eqb}
 use Rattle.conditions.specs.Conditions.{either}
 use Rattle.plain_list.specs.PlainList.{is_place}
 use Rattle.plain_rows.specs.Rows.{rows_of}
-use Rattle.rows_shown.proofs.VerdictLaws.{place-more}
+use Rattle.rows_shown.proofs.VerdictLaws.{place_more}
 use borrow.Author.Rules.{rules}
 use Rattle.rows_shown.proofs.is_place.Statement.{statement}
 use Rattle.rows_shown.proofs.is_place.Tie as tie
@@ -44,7 +44,7 @@ loop-again c =
       λ words.
           c.either-holds.ensures
           ∙ ap₂ (λ (there : ℕ) (found : Bool). either (eqb there a.place) found) c.before.place_at.ensures (inv.1 words)
-          ∙ place-more words a.places.now row a.place,
+          ∙ place_more words a.places.now row a.place,
     )
 
 returns : tie.Need-returns invariant-loop decreases-loop

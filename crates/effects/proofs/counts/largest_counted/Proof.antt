@@ -3,7 +3,7 @@ use mathlib.Core.Path.{◌≡◌, refl, ◌∙◌, sym, ap}
 use native.Mathlib.Omega.{arith}
 use borrow.Author.Rules.{rules}
 use Rattle.effects.specs.Counts.{largest_up_to, largest_counted}
-use Rattle.effects.proofs.CountLaws.{largest-here, largest-below}
+use Rattle.effects.proofs.CountLaws.{largest_here, largest_below}
 use Rattle.effects.proofs.counts.largest_counted.Statement.{statement}
 use Rattle.effects.proofs.counts.largest_counted.Tie as tie
 
@@ -23,7 +23,7 @@ count-in-requires c κs = search rules
 returns : tie.Need-returns invariant-loop decreases-loop
 returns c =
     let l = c.before.before.before.loop in
-    sym (largest-here c.before.before.before.before.args.counts.now l.index (omega (arith, c.before.before.loop-test)) (λ e. c.if1.true (c.before.count-in.ensures ∙ e))) ∙ l.invariant
+    sym (largest_here c.before.before.before.before.args.counts.now l.index (omega (arith, c.before.before.loop-test)) (λ e. c.if1.true (c.before.count-in.ensures ∙ e))) ∙ l.invariant
 
 sub-index : tie.Need-overflow-sub-index invariant-loop decreases-loop
 sub-index c = search rules
@@ -34,7 +34,7 @@ loop-less c = omega arith
 loop-again : tie.Need-loop-preserved invariant-loop decreases-loop
 loop-again c =
     let l = c.before.before.before.loop in
-    sym (largest-below c.before.before.before.before.args.counts.now l.index (omega (arith, c.before.before.loop-test)) (sym c.before.count-in.ensures ∙ c.if1.false)) ∙ l.invariant
+    sym (largest_below c.before.before.before.before.args.counts.now l.index (omega (arith, c.before.before.loop-test)) (sym c.before.count-in.ensures ∙ c.if1.false)) ∙ l.invariant
 
 returns-2 : tie.Need-returns-2 invariant-loop decreases-loop
 unfolding largest_up_to

@@ -5,7 +5,7 @@ use Rattle.refusal.proofs.Laws.{number_positive}
 use Rattle.frame.specs.declared.layout.Layout.{Layout}
 use Rattle.frame.specs.Layouts.{put_frame}
 use Rattle.frame.proofs.LayoutLaws.{chosen, not_allowed, length_laid}
-use Rattle.frame.proofs.Outcomes.{write_not_allowed, write-out-of-range, write-short, write-whole}
+use Rattle.frame.proofs.Outcomes.{write_not_allowed, write_out_of_range, write_short, write_whole}
 use borrow.Author.Rules.{rules}
 use Rattle.frame.proofs.frame_writer.write.Statement.{statement}
 use Rattle.frame.proofs.frame_writer.write.Tie as tie
@@ -36,7 +36,7 @@ returns-2 c =
     let r = c.before.r.given.0.0 in
     let ch = chosen a.map c.before.before.before.before.before.l.given.0.0 (sym c.before.before.before.before.before.before.before.layout_of.ensures ∙ c.before.before.before.before.before.l.given.1) in
     let e = ap paper_judged (sym c.before.r.given.1) ∙ c.before.before.before.judge.ensures in
-    rw ch.byte (sym (write-out-of-range ch.kind a.f a.out.now (number_of r) (number_positive r) (rw ch.laid_out at e)))
+    rw ch.byte (sym (write_out_of_range ch.kind a.f a.out.now (number_of r) (number_positive r) (rw ch.laid_out at e)))
 
 enum-told-2 : tie.Need-enum-told-2
 enum-told-2 c = search rules
@@ -51,7 +51,7 @@ returns-3 c =
     let e = ap paper_judged (sym c.before.before.enum-told2.given.1) ∙ c.before.before.before.before.judge.ensures in
     let l = c.before.before.before.before.before.before.l.given.0.0 in
     rw ch.byte
-    (sym (write-short ch.kind a.f a.out.now l.length (length_laid l ch.kind ch.laid_out) (rw ch.laid_out at e) c.if1.true))
+    (sym (write_short ch.kind a.f a.out.now l.length (length_laid l ch.kind ch.laid_out) (rw ch.laid_out at e) c.if1.true))
 
 put-frame-requires : tie.Need-put-frame-requires
 put-frame-requires c κs = search rules
@@ -67,7 +67,7 @@ returns-4 c =
     let l = c.before.before.before.before.before.before.before.before.before.before.l.given.0.0 in
     rw ch.byte
     (sym
-    (write-whole ch.kind a.f a.out.now l.length c.before.before.put-frame.new.0 (length_laid l ch.kind ch.laid_out) (rw ch.laid_out at e) c.before.before.before.before.if1.false
+    (write_whole ch.kind a.f a.out.now l.length c.before.before.put-frame.new.0 (length_laid l ch.kind ch.laid_out) (rw ch.laid_out at e) c.before.before.before.before.if1.false
     (c.before.before.put-frame.ensures ∙ ap (λ (x : Layout). put_frame x a.f a.out.now) ch.laid_out)))
 
 pub write_spec : {M : Type 1} → statement M

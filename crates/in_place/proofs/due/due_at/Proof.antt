@@ -46,15 +46,15 @@ use Rattle.circle.proofs.party_due.Met as due-thm
 use Rattle.circle.proofs.party_due.Symbol as due-def
 use Rattle.circle.proofs.party_due.Symbol.{name as #due}
 use Rattle.in_place.specs.declared.due.Seen.{Seen as Seen-as-Seen}
-use Rattle.in_place.proofs.Calls.{calls-plain}
-use Rattle.in_place.proofs.Frame.{spread, gather, free-rooms}
-use Rattle.in_place.proofs.Judged.{counts_ref_ty, judged-locals, judges}
+use Rattle.in_place.proofs.Calls.{calls_plain}
+use Rattle.in_place.proofs.Frame.{spread, gather, free_rooms}
+use Rattle.in_place.proofs.Judged.{counts_ref_ty, judged_locals, judges}
 use Rattle.in_place.proofs.Locals.{allocate, found}
 use Rattle.in_place.proofs.Looked.{Entry, Exit, ends, looked}
 use Rattle.in_place.proofs.Params.{Param, wide, slots, tys, args, Related, well_typed}
-use Rattle.in_place.proofs.RecordFields.{writer_val, place_fits, writer-holds}
+use Rattle.in_place.proofs.RecordFields.{writer_val, place_fits, writer_holds}
 use Rattle.in_place.proofs.Results.{number, seen}
-use Rattle.in_place.proofs.Steps.{span, of-local, hears, had}
+use Rattle.in_place.proofs.Steps.{span, of_local, hears, had}
 use Rattle.in_place.specs.contracts.due.Seen as Seen
 use Rattle.in_place.proofs.due.Seen.TheLaws as Seen'
 use Rattle.in_place.specs.contracts.due.readers_seen as readers
@@ -75,7 +75,7 @@ ps = wide ∷ []
 
 -- the locals: the result, those of the judging, whether all is in range, and a reference to the counts
 abbrev τs : List Ty
-τs = ty_int w32 ∷ (judged-locals seen (field 0 ∷ []) 12 11 #readers ++ (ty_bool ∷ counts_ref_ty ∷ []))
+τs = ty_int w32 ∷ (judged_locals seen (field 0 ∷ []) 12 11 #readers ++ (ty_bool ∷ counts_ref_ty ∷ []))
 
 module _ {M : Type 1} {𝓤 : Ura M} (𝓛 : Logic 𝓤) (mem : Memory → SProp 𝓤) (run : Routine → Fun 𝓤) (𝓣 : Tables 𝓤 𝓛.H)
     (met-readers : Triple 𝓤 (𝓣.C #readers) (triple_of 𝓛 readers.signature (readers.spec 𝓛 mem run))) (met-stations : Triple 𝓤 (𝓣.C #stations) (triple_of 𝓛 stations.signature (stations.spec 𝓛 mem run)))
@@ -94,12 +94,12 @@ module _ {M : Type 1} {𝓤 : Ura M} (𝓛 : Logic 𝓤) (mem : Memory → SProp
       (ty_int w32, bs.0) _ _ _ refl _ _ _ (λ is counts_fit stations_fit fits r is-r r-is fits_is.
       -- [the token, the mark and the shared borrow; the reference to the counts; local i at 2i + 2 up to 22; the result at 24; whether all is in range at 26]
       land ! (from ! (stop !)) (init ! 26 refl (tt, tt)) $
-      calls-plain ! (fm_of 𝓤 H 𝓛.laws 𝓣) (bool ∷ u32 ∷ Writer.the_row ∷ u32 ∷ []) (bool_Makes 𝓛, (uint_Makes 𝓛 w32, (LL.makes Writer.the_type Writer'.the_plain 𝓛, (uint_Makes 𝓛 w32, tt))))
-      (asked fits r) (vbool fits ∷ [], (vint w32 h.place ∷ [], (writer_val h.writer ∷ [], (vint w32 r.marks ∷ [], tt)))) (refl, ((refl, place_fits h is), (writer-holds h is, ((refl, (LL.owed Seen.the_type Seen'.the_laws r _ is-r).1.0.1), tt)))) u32 (vint w32) (uint_Tells w32)
+      calls_plain ! (fm_of 𝓤 H 𝓛.laws 𝓣) (bool ∷ u32 ∷ Writer.the_row ∷ u32 ∷ []) (bool_Makes 𝓛, (uint_Makes 𝓛 w32, (LL.makes Writer.the_type Writer'.the_plain 𝓛, (uint_Makes 𝓛 w32, tt))))
+      (asked fits r) (vbool fits ∷ [], (vint w32 h.place ∷ [], (writer_val h.writer ∷ [], (vint w32 r.marks ∷ [], tt)))) (refl, ((refl, place_fits h is), (writer_holds h is, ((refl, (LL.owed Seen.the_type Seen'.the_laws r _ is-r).1.0.1), tt)))) u32 (vint w32) (uint_Tells w32)
       (λ due. (due-of.spec 𝓛 mem run tt (asked fits r)).ensures tt due) (met-due ((tt, tt, tt, asked fits r, (vbool fits ∷ [], (vint w32 h.place ∷ [], (writer_val h.writer ∷ [], (vint w32 r.marks ∷ [], tt))))), tt))
-      (and_then ! (of-local ! 27 refl) (and_then ! (of-local ! 17 refl) (and_then ! (of-local ! 15 refl) (and_then ! (load ! (from ! (fld ! {τ = ty_int w32} {d = 4} refl (stop !))) (look_in ! 21 (sub ! 1 {τ = ty_int w32} {d = 4} refl (whole !)))) (no_more !))))) (λ due is_due.
+      (and_then ! (of_local ! 27 refl) (and_then ! (of_local ! 17 refl) (and_then ! (of_local ! 15 refl) (and_then ! (load ! (from ! (fld ! {τ = ty_int w32} {d = 4} refl (stop !))) (look_in ! 21 (sub ! 1 {τ = ty_int w32} {d = 4} refl (whole !)))) (no_more !))))) (λ due is_due.
       hears ! (lasts_of tt (due-of.signature).params (due-of.ended).kept (asked fits r)) (λ _. due ≡ due_by fits h.place h.writer.work r.marks) (λ _ due_is. drop ! $ land ! (from ! (stop !)) (init ! 24 refl (tt, record { fits = is_due.1 })) $
-      returns ! (look ! 24 refl) $ move ! (24 ∷ 25 ∷ (span 4 20 ++ (26 ∷ 27 ∷ 3 ∷ 28 ∷ []))) $ gather ! τs bs (some _ ∷ some _ ∷ some _ ∷ some _ ∷ some _ ∷ some _ ∷ some _ ∷ some _ ∷ some _ ∷ some _ ∷ some _ ∷ some _ ∷ some _ ∷ []) $ free-rooms ! τs bs [] $ free0 ! $ keep ! (0 ∷ []) $
+      returns ! (look ! 24 refl) $ move ! (24 ∷ 25 ∷ (span 4 20 ++ (26 ∷ 27 ∷ 3 ∷ 28 ∷ []))) $ gather ! τs bs (some _ ∷ some _ ∷ some _ ∷ some _ ∷ some _ ∷ some _ ∷ some _ ∷ some _ ∷ some _ ∷ some _ ∷ some _ ∷ some _ ∷ some _ ∷ []) $ free_rooms ! τs bs [] $ free0 ! $ keep ! (0 ∷ []) $
       by ! (ends number ps 𝓛 (self.clauses 𝓛 mem run) κs qs x a tt due is_due (tt, tt) (had 𝓛 1) (fact_i 𝓤 _ (emp 𝓤) (due_is ∙ λ j. due_by (fits_is j) h.place h.writer.work (r-is.1 j))))))))
     where
       ok : Typed (tys ps) (args κs ps a)

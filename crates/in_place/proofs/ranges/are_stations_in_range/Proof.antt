@@ -27,7 +27,7 @@ use Rattle.in_place.proofs.Calls.{called}
 use Rattle.in_place.proofs.Folded.{walk}
 use Rattle.in_place.proofs.Looked.{looked}
 use Rattle.in_place.proofs.Params.{Param, well_typed}
-use Rattle.in_place.proofs.RecordFields.{station_ty, station_val, stations_found, stations-hold, station-typed, station_inside, stations_at}
+use Rattle.in_place.proofs.RecordFields.{station_ty, station_val, stations_found, stations_hold, station_typed, station_inside, stations_at}
 use Rattle.in_place.proofs.Results.{truth}
 use Rattle.in_place.proofs.Steps.{had}
 use Rattle.in_place.proofs.Tested.{joined, tested}
@@ -43,9 +43,9 @@ pub are-stations-in-range-spec : {M : Type 1} → statement M
 unfolding code.routine tables_of stations_in_range
 are-stations-in-range-spec 𝓤 𝓛 𝓜 𝓡 =
     looked truth ps 𝓛 𝓜 𝓡 (self.clauses 𝓛 𝓜.mem 𝓡.run) code.env #self code.function (code.unfolded 𝓤 𝓛.H 𝓜 𝓡) (λ κs qs x a γ are.
-    walk Station.the_field Station'.the_field_laws 32 6 stations_at station_ty stations_found unheard_station (λ panel. panel.stations) stations-hold (λ panel. refl) tt tt station_inside 16 refl truth ps #test true refl (rv_opd opd_true)
+    walk Station.the_field Station'.the_field_laws 32 6 stations_at station_ty stations_found unheard_station (λ panel. panel.stations) stations_hold (λ panel. refl) tt tt station_inside 16 refl truth ps #test true refl (rv_opd opd_true)
     𝓛 (tables_of 𝓤 𝓛.H 𝓜 (tables 𝓤 𝓛.H 𝓜 𝓡 code.env)) (self.clauses 𝓛 𝓜.mem 𝓡.run) κs qs x a γ (well_typed κs 𝓛 ps a are) (λ Γ E. of_opd ! (true_lit !))
-    (joined station_in_range) (station-typed 𝓛)
+    (joined station_in_range) (station_typed 𝓛)
     (λ fit _ y is_y. called 𝓛 _ (fm_of 𝓤 𝓛.H 𝓛.laws (tables_of 𝓤 𝓛.H 𝓜 (tables 𝓤 𝓛.H 𝓜 𝓡 code.env))) #test (bool ∷ Station.the_row ∷ [])
     (bool_Makes 𝓛, (LL.makes Station.the_type Station'.the_plain 𝓛, tt))
     (fit, (y, a)) (vbool fit ∷ [], (station_val y ∷ [], tt)) (refl, (is_y, are)) bool (λ r. lasts_of tt (test.signature).params (test.ended).kept (fit, (y, a))) (λ r. r ≡ both fit (station_in_range y)) _ (λ r e. e)

@@ -31,8 +31,8 @@ use Rattle.record_ranges.specs.contracts.are_parts_in_range as parts
 use Rattle.record_ranges.proofs.are_parts_in_range.Met as parts-thm
 use Rattle.record_ranges.proofs.are_parts_in_range.Symbol as parts-def
 use Rattle.record_ranges.proofs.are_parts_in_range.Symbol.{name as #parts}
-use Rattle.in_place.proofs.Frame.{spread, gather, free-rooms}
-use Rattle.in_place.proofs.Judged.{counts_ref_ty, judged-locals, judges}
+use Rattle.in_place.proofs.Frame.{spread, gather, free_rooms}
+use Rattle.in_place.proofs.Judged.{counts_ref_ty, judged_locals, judges}
 use Rattle.in_place.proofs.Locals.{allocate, found}
 use Rattle.in_place.proofs.Looked.{Entry, Exit, ends, looked}
 use Rattle.in_place.proofs.Params.{Param, wide, slots, tys, args, Related, well_typed}
@@ -56,7 +56,7 @@ ps = wide ∷ []
 
 -- the locals: the result, those of the judging, and a reference to the counts
 abbrev τs : List Ty
-τs = ty_bool ∷ (judged-locals truth [] 11 0 #readers ++ (counts_ref_ty ∷ []))
+τs = ty_bool ∷ (judged_locals truth [] 11 0 #readers ++ (counts_ref_ty ∷ []))
 
 module _ {M : Type 1} {𝓤 : Ura M} (𝓛 : Logic 𝓤) (mem : Memory → SProp 𝓤) (run : Routine → Fun 𝓤) (𝓣 : Tables 𝓤 𝓛.H)
     (met-readers : Triple 𝓤 (𝓣.C #readers) (triple_of 𝓛 readers.signature (readers.spec 𝓛 mem run))) (met-stations : Triple 𝓤 (𝓣.C #stations) (triple_of 𝓛 stations.signature (stations.spec 𝓛 mem run)))
@@ -74,7 +74,7 @@ module _ {M : Type 1} {𝓤 : Ura M} (𝓛 : Logic 𝓤) (mem : Memory → SProp
       (ty_bool, bs.0) _ _ _ refl _ _ _ (λ _ counts_fit stations_fit fits r _ _ fits_is.
       -- [the token, the mark and the shared borrow; the reference to the counts; local i at 2i + 2 up to 22; the result at 24]
       land ! (from ! (stop !)) (init ! 24 refl (tt, tt)) $
-      returns ! (look ! 24 refl) $ move ! (24 ∷ 25 ∷ (span 4 20 ++ (3 ∷ 26 ∷ []))) $ gather ! τs bs (some _ ∷ some _ ∷ some _ ∷ some _ ∷ some _ ∷ some _ ∷ some _ ∷ some _ ∷ some _ ∷ some _ ∷ some _ ∷ some _ ∷ []) $ free-rooms ! τs bs [] $ free0 ! $ keep ! (0 ∷ []) $
+      returns ! (look ! 24 refl) $ move ! (24 ∷ 25 ∷ (span 4 20 ++ (3 ∷ 26 ∷ []))) $ gather ! τs bs (some _ ∷ some _ ∷ some _ ∷ some _ ∷ some _ ∷ some _ ∷ some _ ∷ some _ ∷ some _ ∷ some _ ∷ some _ ∷ some _ ∷ []) $ free_rooms ! τs bs [] $ free0 ! $ keep ! (0 ∷ []) $
       by ! (ends truth ps 𝓛 (self.clauses 𝓛 mem run) κs qs x a tt fits refl (tt, tt) (had 𝓛 1) (fact_i 𝓤 _ (emp 𝓤) fits_is))))
     where
       ok : Typed (tys ps) (args κs ps a)

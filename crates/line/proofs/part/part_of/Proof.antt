@@ -6,7 +6,7 @@ use borrow.Author.Tests.{ne_eqb}
 use borrow.Author.Rules.{rules}
 use lib.Seq.{slice}
 use Rattle.line.specs.LineParts.{part_of}
-use Rattle.line.proofs.PartLaws.{slice_inside, part_none, part-ended, part-more, part_field, run_forward}
+use Rattle.line.proofs.PartLaws.{slice_inside, part_none, part_ended, part_more, part_field, run_forward}
 use Rattle.line.proofs.part.part_of.Statement.{statement}
 use Rattle.line.proofs.part.part_of.Tie as tie
 
@@ -33,7 +33,7 @@ returns c =
     let l = c.before.before.before.loop in
     let bytes = c.before.before.before.before.before.before.args.bytes.now in
     let end = c.before.before.before.before.lesser in
-    sym (part-ended l.part bytes l.i end.result (omega arith) (omega arith) c.if1.true) ∙ l.invariant
+    sym (part_ended l.part bytes l.i end.result (omega arith) (omega arith) c.if1.true) ∙ l.invariant
 
 more-requires : tie.Need-more-requires invariant-loop decreases-loop
 more-requires c κs = search rules
@@ -59,7 +59,7 @@ loop-again-2 c =
     let l = c.before.before.before.before.before.loop in
     let bytes = c.before.before.before.before.before.before.before.before.args.bytes.now in
     let end = c.before.before.before.before.before.before.lesser in
-    rw c.before.more.ensures (part-more l.part bytes l.i end.result (omega arith) (omega arith) (ne_eqb _ _ c.before.before.if1.false) ∙ l.invariant)
+    rw c.before.more.ensures (part_more l.part bytes l.i end.result (omega arith) (omega arith) (ne_eqb _ _ c.before.before.if1.false) ∙ l.invariant)
 
 returns-2 : tie.Need-returns-2 invariant-loop decreases-loop
 returns-2 c =

@@ -8,7 +8,7 @@ use borrow.Author.Tests.{not-true, not-false}
 use borrow.Author.Rules.{rules}
 use Rattle.conditions.proofs.ConditionLaws.{within_low, within_high}
 use Rattle.line.specs.Grammar.{digit}
-use Rattle.line.proofs.RunLaws.{left_at, RunRead, run-begun, run-few, run_small, run_more, left_other, left-stopped, run-ended}
+use Rattle.line.proofs.RunLaws.{left_at, RunRead, run_begun, run_few, run_small, run_more, left_other, left_stopped, run_ended}
 use Rattle.line.proofs.run.digits_run.Statement.{statement}
 use Rattle.line.proofs.run.digits_run.Tie as tie
 
@@ -28,7 +28,7 @@ add-stop : tie.Need-overflow-add-stop invariant-loop decreases-loop
 add-stop c = omega (arith, c.lesser.ensures)
 
 loop-holds : tie.Need-loop-init invariant-loop decreases-loop
-loop-holds c = (search rules, run-begun _ _ _)
+loop-holds c = (search rules, run_begun _ _ _)
 
 shared-slice-read-byte : tie.Need-shared-slice-read-byte invariant-loop decreases-loop
 shared-slice-read-byte c = omega (arith, c.before.before.before.lesser.ensures)
@@ -72,7 +72,7 @@ sub-digits-field : tie.Need-overflow-sub-digits-field invariant-loop decreases-l
 sub-digits-field c = search rules
 
 cast-digits-field : tie.Need-overflow-cast-digits-field invariant-loop decreases-loop
-cast-digits-field c = omega (arith, run-few _ _ _ c.before.loop.invariant.1)
+cast-digits-field c = omega (arith, run_few _ _ _ c.before.loop.invariant.1)
 
 digits-field-requires : tie.Need-digits-field-requires invariant-loop decreases-loop
 digits-field-requires c κs = search rules
@@ -84,10 +84,10 @@ returns c =
     let stop = c.before.before.before.lesser.ensures in
     let none : left_at args.bytes.now args.from args.to l.i ≡ [] =
     ⊎_elim
-    (λ w. left-stopped _ _ _ l.i (omega arith) (omega arith))
+    (λ w. left_stopped _ _ _ l.i (omega arith) (omega arith))
     (λ w. left_other _ _ _ l.i (omega arith) (omega arith) (omega arith) (sym w.2.ensures ∙ not-true _ w.3.taken))
     c.before.loop-test.branch in
-    run-ended _ _ _ _ l.invariant.0 none l.invariant.1 c.digits-field.ensures
+    run_ended _ _ _ _ l.invariant.0 none l.invariant.1 c.digits-field.ensures
 
 pub digits-run-spec : {M : Type 1} → statement M
 digits-run-spec =

@@ -2,7 +2,7 @@
 use mathlib.Core.Path.{sym, ap, ◌∙◌}
 use Rattle.frame.specs.Answers.{paper_read}
 use Rattle.history.specs.Log.{as_change}
-use Rattle.panel_and_list.proofs.KeptLaws.{frame-sent, frame-not-refused}
+use Rattle.panel_and_list.proofs.KeptLaws.{frame_sent, frame_not_refused}
 use borrow.Author.Rules.{rules}
 use Rattle.panel_and_list.proofs.kept_list.commanded.Statement.{statement}
 use Rattle.panel_and_list.proofs.kept_list.commanded.Tie as tie
@@ -25,13 +25,13 @@ returns c allowed =
     let bytes = c.before.before.before.before.before.before.args.frame.now in
     let given = c.before.before.fields.given in
     c.change-of.ensures
-    ∙ ap as_change (frame-sent bytes allowed given.0.0 given.0.1.0 (sym (ap paper_read given.1) ∙ c.before.before.before.before.read.ensures))
+    ∙ ap as_change (frame_sent bytes allowed given.0.0 given.0.1.0 (sym (ap paper_read given.1) ∙ c.before.before.before.before.read.ensures))
 
 returns-2 : tie.Need-returns-2
 returns-2 c allowed =
     let bytes = c.before.before.before.before.args.frame.now in
     let given = c.enum_told.given in
-    absurd (frame-not-refused bytes allowed given.0.0 (sym (ap paper_read given.1) ∙ c.before.before.read.ensures))
+    absurd (frame_not_refused bytes allowed given.0.0 (sym (ap paper_read given.1) ∙ c.before.before.read.ensures))
 
 pub commanded-spec : {M : Type 1} → statement M
 commanded-spec =

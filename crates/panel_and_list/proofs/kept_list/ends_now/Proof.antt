@@ -2,7 +2,7 @@
 use mathlib.Core.Path.{ap₂, ◌∙◌}
 use Rattle.conditions.specs.Conditions.{both}
 use Rattle.answers.specs.Answers.{paper_call}
-use Rattle.panel_and_list.proofs.KeptLaws.{ends-by-step}
+use Rattle.panel_and_list.proofs.KeptLaws.{ends_by_step}
 use borrow.Author.Rules.{rules}
 use Rattle.panel_and_list.proofs.kept_list.ends_now.Statement.{statement}
 use Rattle.panel_and_list.proofs.kept_list.ends_now.Tie as tie
@@ -21,7 +21,7 @@ returns c frame =
     let a = c.before.before.before.args in
     c.both_hold.ensures
     ∙ ap₂ both c.before.before.is-writer-step.ensures c.before.has_ended.ensures
-    ∙ ends-by-step (paper_call a.answer) frame a.call
+    ∙ ends_by_step (paper_call a.answer) frame a.call
 
 pub ends-now-spec : {M : Type 1} → statement M
 ends-now-spec =

@@ -4,7 +4,7 @@ use Rattle.answers.specs.Answers.{paper_call}
 use Rattle.calls.specs.declared.Call.{Call}
 use Rattle.history.specs.Log.{role_of, writing_after}
 use Rattle.panel_and_list.specs.Kept.{fed_after, NotesAfter}
-use Rattle.panel_and_list.proofs.KeptLaws.{begun-noted, stepped_noted}
+use Rattle.panel_and_list.proofs.KeptLaws.{begun_noted, stepped_noted}
 use borrow.Author.Rules.{rules}
 use Rattle.panel_and_list.proofs.kept_list.notes_now.Statement.{statement}
 use Rattle.panel_and_list.proofs.kept_list.notes_now.Tie as tie
@@ -83,28 +83,28 @@ unfolding role_of
 returns-4 c framed =
     let a = c.before.before.before.before.before.args in
     subst (λ (x : Call). NotesAfter a.notes a.feeds (paper_call a.answer) (role_of x a.frame.now (paper_call a.answer)) c.begun.result) (sym c.before.before.call.given.1)
-    (begun-noted a.notes a.feeds (paper_call a.answer) _ _ _ c.begun.ensures (λ s. refl))
+    (begun_noted a.notes a.feeds (paper_call a.answer) _ _ _ c.begun.ensures (λ s. refl))
 
 returns-5 : tie.Need-returns-5
 unfolding role_of
 returns-5 c framed =
     let a = c.before.before.before.before.before.args in
     subst (λ (x : Call). NotesAfter a.notes a.feeds (paper_call a.answer) (role_of x a.frame.now (paper_call a.answer)) c.begun2.result) (sym c.before.before.call2.given.1)
-    (begun-noted a.notes a.feeds (paper_call a.answer) _ _ _ c.begun2.ensures (λ s. refl))
+    (begun_noted a.notes a.feeds (paper_call a.answer) _ _ _ c.begun2.ensures (λ s. refl))
 
 returns-6 : tie.Need-returns-6
 unfolding role_of
 returns-6 c framed =
     let a = c.before.before.before.before.before.args in
     subst (λ (x : Call). NotesAfter a.notes a.feeds (paper_call a.answer) (role_of x a.frame.now (paper_call a.answer)) c.begun3.result) (sym c.before.before.call3.given.1)
-    (begun-noted a.notes a.feeds (paper_call a.answer) _ _ _ c.begun3.ensures (λ s. refl))
+    (begun_noted a.notes a.feeds (paper_call a.answer) _ _ _ c.begun3.ensures (λ s. refl))
 
 returns-7 : tie.Need-returns-7
 unfolding role_of
 returns-7 c framed =
     let a = c.before.before.before.before.before.args in
     subst (λ (x : Call). NotesAfter a.notes a.feeds (paper_call a.answer) (role_of x a.frame.now (paper_call a.answer)) c.begun4.result) (sym c.before.before.enum-told4.given.1)
-    (begun-noted a.notes a.feeds (paper_call a.answer) _ _ _ c.begun4.ensures (λ s. c.before.commanded.ensures (framed c.before.before.enum-told4.given.1 s)))
+    (begun_noted a.notes a.feeds (paper_call a.answer) _ _ _ c.begun4.ensures (λ s. c.before.commanded.ensures (framed c.before.before.enum-told4.given.1 s)))
 
 returns-8 : tie.Need-returns-8
 unfolding role_of

@@ -5,7 +5,7 @@ use borrow.Author.Rules.{rules}
 use Rattle.conditions.specs.Conditions.{both}
 use Rattle.answers.specs.Answers.{paper_call}
 use Rattle.effects.specs.Memory.{stores_slot}
-use Rattle.panel_and_list.proofs.KeptLaws.{stores-by-step}
+use Rattle.panel_and_list.proofs.KeptLaws.{stores_by_step}
 use Rattle.panel_and_list.proofs.kept_list.stores_now.Statement.{statement}
 use Rattle.panel_and_list.proofs.kept_list.stores_now.Tie as tie
 
@@ -35,7 +35,7 @@ returns c frame =
     (c.before.before.both_hold.ensures
     ∙ ap₂ both (ap not c.before.before.before.before.is-refused.ensures)
     (c.before.before.before.does_store_slot.ensures ∙ ap stores_slot c.before.before.before.before.before.writer_access.ensures))
-    ∙ stores-by-step a.panel (paper_call a.answer) frame a.call
+    ∙ stores_by_step a.panel (paper_call a.answer) frame a.call
 
 pub stores-now-spec : {M : Type 1} → statement M
 stores-now-spec =

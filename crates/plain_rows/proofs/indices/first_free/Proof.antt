@@ -9,7 +9,7 @@ use borrow.Author.Tests.{not-true, not-false}
 use borrow.Author.Rules.{rules}
 use Rattle.hash.specs.Position.{position_of}
 use Rattle.plain_list.specs.PlainList.{is_place}
-use Rattle.plain_list.proofs.IndexLaws.{free-is, none_free}
+use Rattle.plain_list.proofs.IndexLaws.{free_is, none_free}
 use Rattle.plain_rows.specs.Rows.{rows_of}
 use Rattle.plain_rows.proofs.indices.first_free.Statement.{statement}
 use Rattle.plain_rows.proofs.indices.first_free.Tie as tie
@@ -39,7 +39,7 @@ returns c =
     let a = c.before.before.before.before.before.before.args in
     λ words.
     sym
-    (free-is a.m a.k a.point (l.taken + 1) (rows_of words a.places.now a.count) (omega arith) (omega arith)
+    (free_is a.m a.k a.point (l.taken + 1) (rows_of words a.places.now a.count) (omega arith) (omega arith)
     (ap (λ (place : ℕ). is_place place (rows_of words a.places.now a.count)) (sym c.before.before.position.ensures) ∙ sym (c.before.is-place.ensures words) ∙ not-true _ c.if1.true)
     (λ i low below. l.invariant.1 i below low words))
 

@@ -6,7 +6,7 @@ use borrow.Author.Rules.{rules}
 use Rattle.answers.specs.Answers.{placed, ended_with}
 use Rattle.plain_list.specs.PlainList.{index_of, add_row}
 use Rattle.plain_rows.specs.Rows.{rows_of}
-use Rattle.plain_rows.proofs.FedLaws.{row_room, feeds-nothing, feeds-row, misfits_row, row_added}
+use Rattle.plain_rows.proofs.FedLaws.{row_room, feeds_nothing, feeds_row, misfits_row, row_added}
 use Rattle.plain_rows.proofs.operations.add_row.Statement.{statement}
 use Rattle.plain_rows.proofs.operations.add_row.Tie as tie
 
@@ -18,7 +18,7 @@ unfolding add_row
 returns c =
     let start = c.before.before.before.before in
     let a = start.args in
-    feeds-nothing a.words.now a.places.now a.count start.requires _ _ (ended_with 6) refl c.list-answer.ensures (rw c.before.if1.true)
+    feeds_nothing a.words.now a.places.now a.count start.requires _ _ (ended_with 6) refl c.list-answer.ensures (rw c.before.if1.true)
 
 both-hold-requires : tie.Need-both-hold-requires
 both-hold-requires c κs = search rules
@@ -79,8 +79,8 @@ returns-3 c =
     let told = row_added a.m a.k a.point a.value a.index place rows c.before.before.before.before.before.if1.false c.before.before.position.ensures in
     let added = add_row a.m a.k a.point a.value rows a.index in
     let answer = placed place (index_of a.m a.k a.point place) in
-    rw c.before.word-of.ensures
-    (feeds-row a.words.now a.places.now a.count start.requires c.placed.result added a.point a.value place answer (omega arith) room c.placed.ensures.0 c.placed.ensures.1 told)
+    rw c.before.word_of_lem.ensures
+    (feeds_row a.words.now a.places.now a.count start.requires c.placed.result added a.point a.value place answer (omega arith) room c.placed.ensures.0 c.placed.ensures.1 told)
 
 pub add-row-spec : {M : Type 1} → statement M
 add-row-spec =

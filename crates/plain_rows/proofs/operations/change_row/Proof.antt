@@ -5,7 +5,7 @@ use lib.Bits.{bit_and, bit_xor}
 use Rattle.answers.specs.Answers.{changed, ended_with}
 use Rattle.plain_list.specs.PlainList.{absent, present, entry_of, with_value, tells, change_entry, change_row}
 use Rattle.plain_rows.specs.Rows.{rows_of, entry_read}
-use Rattle.plain_rows.proofs.FedLaws.{feeds-nothing, feeds-value}
+use Rattle.plain_rows.proofs.FedLaws.{feeds_nothing, feeds_value}
 use Rattle.plain_rows.proofs.operations.change_row.Statement.{statement}
 use Rattle.plain_rows.proofs.operations.change_row.Tie as tie
 
@@ -42,7 +42,7 @@ returns c =
     let searched = c.before.before.before.entry_of in
     let entry : entry_read searched.result ≡ entry_of a.point rows = searched.ensures in
     let none : entry_of a.point rows ≡ absent = sym entry ∙ ap entry_read c.before.enum_told.given.1 in
-    feeds-nothing a.words.now a.places.now a.count start.requires c.unknown.result _ (ended_with 7) c.unknown.ensures.0 c.unknown.ensures.1 (rw none)
+    feeds_nothing a.words.now a.places.now a.count start.requires c.unknown.result _ (ended_with 7) c.unknown.ensures.0 c.unknown.ensures.1 (rw none)
 
 same-length-3 : tie.Need-same-length-3
 same-length-3 c = search rules
@@ -63,7 +63,7 @@ returns-2 c =
     let new = bit_xor (bit_and found.0.0 a.keep) a.flip in
     let told : change_row a.point a.keep a.flip rows ≡ tells (with_value a.point new rows) (changed new) = rw some in
     let stored = c.before.before.before.with_value in
-    feeds-value a.words.now a.places.now a.count start.requires _ _ stored.new.0 a.point new (changed new) stored.ensures refl c.list-answer.ensures told
+    feeds_value a.words.now a.places.now a.count start.requires _ _ stored.new.0 a.point new (changed new) stored.ensures refl c.list-answer.ensures told
 
 pub change-row-spec : {M : Type 1} → statement M
 change-row-spec =

@@ -4,7 +4,7 @@ use borrow.Author.Rules.{rules}
 use Rattle.answers.specs.Answers.{placed}
 use Rattle.plain_list.specs.PlainList.{absent, present, entry_of, with_value, index_of, tells, put_entry, put_row}
 use Rattle.plain_rows.specs.Rows.{rows_of, entry_read}
-use Rattle.plain_rows.proofs.FedLaws.{feeds-value}
+use Rattle.plain_rows.proofs.FedLaws.{feeds_value}
 use Rattle.plain_rows.proofs.operations.put_row.Statement.{statement}
 use Rattle.plain_rows.proofs.operations.put_row.Tie as tie
 
@@ -64,7 +64,7 @@ returns-2 c =
     let answer = placed found.0.1.0 (index_of a.m a.k a.point found.0.1.0) in
     let told : put_row a.m a.k a.point a.value rows ≡ tells (with_value a.point a.value rows) answer = rw some in
     let stored = c.before.before.before.with_value in
-    feeds-value a.words.now a.places.now a.count start.requires c.placed.result _ stored.new.0 a.point a.value answer stored.ensures c.placed.ensures.0 c.placed.ensures.1 told
+    feeds_value a.words.now a.places.now a.count start.requires c.placed.result _ stored.new.0 a.point a.value answer stored.ensures c.placed.ensures.0 c.placed.ensures.1 told
 
 pub put-row-spec : {M : Type 1} → statement M
 put-row-spec =

@@ -6,7 +6,7 @@ use Rattle.answers.specs.Answers.{removed, ended_with}
 use Rattle.plain_list.specs.PlainList.{absent, present, entry_of, without, largest_index, tells, remove_entry, remove_row}
 use Rattle.plain_rows.specs.Rows.{rows_of, entry_read}
 use Rattle.plain_rows.specs.Fed.{list_answer}
-use Rattle.plain_rows.proofs.FedLaws.{feeds-nothing, feeds-without}
+use Rattle.plain_rows.proofs.FedLaws.{feeds_nothing, feeds_without}
 use Rattle.plain_rows.proofs.operations.remove_row.Statement.{statement}
 use Rattle.plain_rows.proofs.operations.remove_row.Tie as tie
 
@@ -46,7 +46,7 @@ returns c =
     let searched = c.before.before.before.entry_of in
     let entry : entry_read searched.result ≡ entry_of a.point rows = searched.ensures in
     let none : entry_of a.point rows ≡ absent = sym entry ∙ ap entry_read c.before.enum_told.given.1 in
-    feeds-nothing a.words.now a.places.now a.count start.requires c.unknown.result _ (ended_with 7) c.unknown.ensures.0 c.unknown.ensures.1 (rw none)
+    feeds_nothing a.words.now a.places.now a.count start.requires c.unknown.result _ (ended_with 7) c.unknown.ensures.0 c.unknown.ensures.1 (rw none)
 
 same-length-3 : tie.Need-same-length-3
 same-length-3 c = search rules
@@ -69,7 +69,7 @@ returns-2 c =
     let told : remove_row a.m a.k a.point rows ≡ tells left (removed (largest_index a.m a.k left)) = rw some in
     let shown : rows_of removal.new.0 removal.new.1.0 removal.result ≡ left = removal.ensures.shown in
     let largest : c.before.largest-index.result ≡ largest_index a.m a.k left = rw (← shown) c.before.largest-index.ensures in
-    feeds-without a.words.now a.places.now a.count start.requires _ _ removal.new.0 removal.new.1.0 removal.result a.point (removed (largest_index a.m a.k left)) removal.ensures refl (c.list-answer.ensures ∙ ap (λ (i : ℕ). list_answer (removed i)) largest) told
+    feeds_without a.words.now a.places.now a.count start.requires _ _ removal.new.0 removal.new.1.0 removal.result a.point (removed (largest_index a.m a.k left)) removal.ensures refl (c.list-answer.ensures ∙ ap (λ (i : ℕ). list_answer (removed i)) largest) told
 
 pub remove-row-spec : {M : Type 1} → statement M
 remove-row-spec =

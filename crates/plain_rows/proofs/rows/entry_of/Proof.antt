@@ -6,7 +6,7 @@ use borrow.Author.Rules.{rules}
 use lib.ListN.{get_or}
 use Rattle.plain_list.specs.PlainList.{present, entry_of}
 use Rattle.plain_rows.specs.Rows.{rows_of}
-use Rattle.plain_rows.proofs.RowsLaws.{entry-newest, entry-older}
+use Rattle.plain_rows.proofs.RowsLaws.{entry_newest, entry_older}
 use Rattle.plain_rows.proofs.rows.entry_of.Statement.{statement}
 use Rattle.plain_rows.proofs.rows.entry_of.Tie as tie
 
@@ -47,7 +47,7 @@ returns c =
     let some : 0 < l.i = omega arith in
     let same = sym c.before.before.before.point-of.ensures ∙ c.before.before.if1.true in
     ap (λ (v : ℕ). present v (get_or a.places.now (l.i - 1) 0)) c.before.value_of_lem.ensures
-    ∙ sym (entry-newest a.words.now a.places.now l.i a.point some same)
+    ∙ sym (entry_newest a.words.now a.places.now l.i a.point some same)
     ∙ l.invariant.1
 
 loop-less : tie.Need-loop-smaller invariant-loop decreases-loop
@@ -59,7 +59,7 @@ loop-again c =
     let a = c.before.before.before.before.before.before.before.args in
     let some : 0 < l.i = omega arith in (
       omega arith,
-      sym (entry-older a.words.now a.places.now l.i a.point some (λ e. c.if1.false (c.before.point-of.ensures ∙ e))) ∙ l.invariant.1,
+      sym (entry_older a.words.now a.places.now l.i a.point some (λ e. c.if1.false (c.before.point-of.ensures ∙ e))) ∙ l.invariant.1,
     )
 
 returns-2 : tie.Need-returns-2 invariant-loop decreases-loop

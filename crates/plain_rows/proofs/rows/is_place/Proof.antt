@@ -6,7 +6,7 @@ use native.Mathlib.Omega.{arith}
 use borrow.Author.Rules.{rules}
 use Rattle.plain_list.specs.PlainList.{is_place}
 use Rattle.plain_rows.specs.Rows.{rows_of}
-use Rattle.plain_rows.proofs.RowsLaws.{place-newest, place-older}
+use Rattle.plain_rows.proofs.RowsLaws.{place_newest, place_older}
 use Rattle.plain_rows.proofs.rows.is_place.Statement.{statement}
 use Rattle.plain_rows.proofs.rows.is_place.Tie as tie
 
@@ -32,7 +32,7 @@ returns : tie.Need-returns invariant-loop decreases-loop
 returns c =
     let l = c.before.before.before.loop in
     let a = c.before.before.before.before.args in
-    λ words. sym (place-newest words a.places.now l.i a.place (omega arith) c.if1.true) ∙ l.invariant.1 words
+    λ words. sym (place_newest words a.places.now l.i a.place (omega arith) c.if1.true) ∙ l.invariant.1 words
 
 loop-less : tie.Need-loop-smaller invariant-loop decreases-loop
 loop-less c = search rules
@@ -42,7 +42,7 @@ loop-again c =
     let l = c.before.before.before.loop in
     let a = c.before.before.before.before.args in (
       omega arith,
-      λ words. sym (place-older words a.places.now l.i a.place (omega arith) c.if1.false) ∙ l.invariant.1 words,
+      λ words. sym (place_older words a.places.now l.i a.place (omega arith) c.if1.false) ∙ l.invariant.1 words,
     )
 
 returns-2 : tie.Need-returns-2 invariant-loop decreases-loop

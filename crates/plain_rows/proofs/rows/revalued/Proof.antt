@@ -12,7 +12,7 @@ word-of-requires : tie.Need-word-of-requires
 word-of-requires c κs = search rules
 
 returns : tie.Need-returns
-returns c = rw (eq-eqb _ _ (sym c.before.before.point-of.ensures ∙ c.before.if1.true)) c.word-of.ensures
+returns c = rw (eq-eqb _ _ (sym c.before.before.point-of.ensures ∙ c.before.if1.true)) c.word_of_lem.ensures
 
 returns-2 : tie.Need-returns-2
 returns-2 c = rw (ne_eqb _ _ (λ e. c.if1.false (c.before.point-of.ensures ∙ e)))

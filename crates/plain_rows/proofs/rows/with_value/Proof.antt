@@ -5,7 +5,7 @@ use native.Mathlib.Omega.{arith}
 use borrow.Author.Rules.{rules}
 use lib.ListN.{length, length-set}
 use Rattle.plain_rows.specs.Rows.{Revalues}
-use Rattle.plain_rows.proofs.StoreLaws.{revalues-none, revalues-more}
+use Rattle.plain_rows.proofs.StoreLaws.{revalues_none, revalues_more}
 use Rattle.plain_rows.proofs.rows.with_value.Statement.{statement}
 use Rattle.plain_rows.proofs.rows.with_value.Tie as tie
 
@@ -17,7 +17,7 @@ decreases-loop words₀ count point value i₀ words i = count - i
 
 loop-holds : tie.Need-loop-init invariant-loop decreases-loop
 loop-holds c =
-    (omega arith, refl, revalues-none c.before.args.words.now c.before.args.point c.before.args.value)
+    (omega arith, refl, revalues_none c.before.args.words.now c.before.args.point c.before.args.value)
 
 mul-revalued : tie.Need-overflow-mul-revalued invariant-loop decreases-loop
 mul-revalued c = search rules
@@ -46,7 +46,7 @@ loop-again c =
     let a = c.before.before.before.before.before.args in (
       omega arith,
       simp length-set l.invariant.1,
-      rw c.revalued.ensures (revalues-more a.words.now a.point a.value l.words l.i l.invariant.2 (omega arith) (omega arith)),
+      rw c.revalued.ensures (revalues_more a.words.now a.point a.value l.words l.i l.invariant.2 (omega arith) (omega arith)),
     )
 
 same_length : tie.Need-same-length invariant-loop decreases-loop

@@ -6,7 +6,7 @@ use native.Mathlib.Omega.{arith}
 use borrow.Author.Rules.{rules}
 use lib.ListN.{length, length-set}
 use Rattle.plain_rows.specs.Rows.{Removes}
-use Rattle.plain_rows.proofs.StoreLaws.{removes-none, removes-gone, removes-kept}
+use Rattle.plain_rows.proofs.StoreLaws.{removes_none, removes_gone, removes_kept}
 use Rattle.plain_rows.proofs.rows.without.Statement.{statement}
 use Rattle.plain_rows.proofs.rows.without.Tie as tie
 
@@ -20,7 +20,7 @@ decreases-loop words₀ places₀ count point left₀ i₀ words places left i =
 loop-holds : tie.Need-loop-init invariant-loop decreases-loop
 loop-holds c =
     let a = c.before.before.args in
-    (omega arith, omega arith, refl, refl, removes-none a.words.now a.places.now a.point)
+    (omega arith, omega arith, refl, refl, removes_none a.words.now a.places.now a.point)
 
 mul-word : tie.Need-overflow-mul-word invariant-loop decreases-loop
 mul-word c = search rules
@@ -69,14 +69,14 @@ loop-again c =
       omega (arith, w.4),
       ap length w.2 ∙ simp length-set l.invariant.2,
       ap length w.3 ∙ simp length-set l.invariant.3,
-      rw (w.2, w.3, w.4) (removes-kept a.words.now a.places.now a.point l.words l.places l.i l.left l.invariant.4 (omega arith) (omega arith) (λ e. w.0.taken (same ∙ e))),
+      rw (w.2, w.3, w.4) (removes_kept a.words.now a.places.now a.point l.words l.places l.i l.left l.invariant.4 (omega arith) (omega arith) (λ e. w.0.taken (same ∙ e))),
     ))
     (λ w. (
       omega arith,
       omega (arith, w.3),
       ap length w.1 ∙ l.invariant.2,
       ap length w.2 ∙ l.invariant.3,
-      rw (w.1, w.2, w.3) (removes-gone a.words.now a.places.now a.point l.words l.places l.i l.left l.invariant.4 (sym same ∙ w.0.left)),
+      rw (w.1, w.2, w.3) (removes_gone a.words.now a.places.now a.point l.words l.places l.i l.left l.invariant.4 (sym same ∙ w.0.left)),
     ))
     c.if1.branch
 

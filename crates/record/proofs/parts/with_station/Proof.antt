@@ -4,7 +4,7 @@ use native.Mathlib.Omega.{arith}
 use borrow.Author.Rules.{rules}
 use lib.ListN.{length}
 use Rattle.record.specs.Parts.{with_stations, with_station}
-use Rattle.record.proofs.Numbered.{mapped_length, replaced-zero, replaced-past, replaced-at}
+use Rattle.record.proofs.Numbered.{mapped_length, replaced_zero, replaced_past, replaced_at}
 use Rattle.record.proofs.parts.with_station.Statement.{statement}
 use Rattle.record.proofs.parts.with_station.Tie as tie
 
@@ -13,7 +13,7 @@ unfolding with_station with_stations
 returns c =
     let a = c.before.args in
     let p = a.panel in
-    let same = sym (replaced-zero p.stations a.station a.last c.if1.true) in
+    let same = sym (replaced_zero p.stations a.station a.last c.if1.true) in
     ap (with_stations p) same
 
 returns-2 : tie.Need-returns-2
@@ -22,7 +22,7 @@ returns-2 c =
     let a = c.before.before.args in
     let p = a.panel in
     let all : length p.stations ≡ 32 = mapped_length p.stations _ 32 c.before.before.well-formed.0.1.1.1.1.1.1.1.1.0.1.0.1 in
-    let same = sym (replaced-past p.stations a.station a.last (omega (arith, c.if2.true))) in
+    let same = sym (replaced_past p.stations a.station a.last (omega (arith, c.if2.true))) in
     ap (with_stations p) same
 
 sub-last : tie.Need-overflow-sub-last
@@ -42,7 +42,7 @@ unfolding with_station with_stations
 returns-3 c =
     let a = c.before.before.args in
     let p = a.panel in
-    let same = sym (replaced-at p.stations a.station a.last (omega (arith, c.before.if1.false))) in
+    let same = sym (replaced_at p.stations a.station a.last (omega (arith, c.before.if1.false))) in
     ap (with_stations p) same
 
 pub with-station-spec : {M : Type 1} → statement M

@@ -7,7 +7,7 @@ use borrow.Author.Tests.{eq-eqb, ne_eqb}
 use borrow.Author.Rules.{rules}
 use lib.ListN.{length, drop}
 use Rattle.slot_words.specs.Taken.{taken_slots}
-use Rattle.slot_words.proofs.TakenLaws.{taken_more, taken-same, taken-end}
+use Rattle.slot_words.proofs.TakenLaws.{taken_more, taken_same, taken_end}
 use Rattle.slot_words.proofs.taken.taken_slots.Statement.{statement}
 use Rattle.slot_words.proofs.taken.taken_slots.Tie as tie
 
@@ -41,14 +41,14 @@ loop-again c =
     let s = c.before.before.before.before.args.slots.now in
     ⊎_elim
     (λ w. omega (arith, taken_more s l.i (omega arith) (ne_eqb _ _ w.0.taken)))
-    (λ w. omega (arith, taken-same s l.i (omega arith) (eq-eqb _ _ w.0.left)))
+    (λ w. omega (arith, taken_same s l.i (omega arith) (eq-eqb _ _ w.0.left)))
     c.if1.branch
 
 returns : tie.Need-returns invariant-loop decreases-loop
 returns c =
     let l = c.before.loop in
     let s = c.before.before.args.slots.now in
-    omega (arith, taken-end s l.i (omega arith))
+    omega (arith, taken_end s l.i (omega arith))
 
 pub taken-slots-spec : {M : Type 1} → statement M
 taken-slots-spec =

@@ -20,7 +20,7 @@ use Rattle.in_place.proofs.Panel.{start_outcome}
 use Rattle.in_place.proofs.Params.{Param, number}
 use Rattle.lent_record.proofs.Loop.{Arguments}
 use Rattle.lent_record.proofs.LoopMet.{safe, sum_ended, iterations}
-use Rattle.lent_record.proofs.LoopShared.{shared, shared_stay, shared_callee, shared_goes, shared_kept, shared-calls}
+use Rattle.lent_record.proofs.LoopShared.{shared, shared_stay, shared_callee, shared_goes, shared_kept, shared_calls}
 use Rattle.step_speed.specs.contracts.sums.with_start as sum
 use Rattle.step_speed.proofs.sums.with_start.Met as sum-thm
 use Rattle.step_speed.proofs.sums.with_start.Symbol as sum-def
@@ -59,7 +59,7 @@ lookup-starts-spec 𝓤 𝓛 𝓜 𝓡 =
           assigns ! (bin ! (load ! (from ! (stop !)) (look ! 3 refl)) (lit ! tt) (record { fits = below less fits })) (from ! (stop !)) (init ! 0 refl (tt, record { fits = below less fits })) $ fjoin3 ! $ move ! (1 ∷ 2 ∷ []) $ s);
       read = λ i y Γ b₂ b₆ ms e₀ e₁ e₃ e₄ e₅ e₇ e₈ e₉. at_entry _ 3 (in_tail _ (ty_int w32) [] ms (vint w32 (i + 1)) [] (and_then ! (load ! (from ! (stop !)) (look ! 5 refl)) (and_then ! (load ! (from ! (stop !)) (look ! 4 refl)) (and_then ! (load ! (from ! (stop !)) (look ! 1 refl)) (no_more !)))));
     })
-    (shared-calls 𝓛 start_outcome (𝓡.run (code.env #callee)) (run_framed 𝓤 𝓛.H 𝓜 𝓡 (code.env #callee)) ps
+    (shared_calls 𝓛 start_outcome (𝓡.run (code.env #callee)) (run_framed 𝓤 𝓛.H 𝓜 𝓡 (code.env #callee)) ps
     (safe 𝓛 𝓜 𝓡 (shared_callee start_outcome ps) code.env #callee callee-def.routine refl (callee.clauses 𝓛 𝓜.mem 𝓡.run) (callee-thm.met 𝓤 𝓛 𝓜 𝓡) (λ κs a. tt) (λ κs a. id⊢ 𝓤 _))
     (λ κs i. (i, (i + 1, tt))) (λ κs i fits. qed 𝓛 [] ∵ nothing ! $ owned ! u32 (Is u32) (uint_Makes 𝓛 w32) (i + 1) _ (refl, fits) $ fjoin ! $ owned ! u32 (Is u32) (uint_Makes 𝓛 w32) (i) _ (refl, small fits) $ fjoin ! $ done !) (λ i. vint w32 i ∷ vint w32 (i + 1) ∷ []) (λ κs i. refl))
     (safe 𝓛 𝓜 𝓡 (sum_ended start_outcome) code.env #sum sum-def.routine refl (sum.clauses 𝓛 𝓜.mem 𝓡.run) (sum-thm.met 𝓤 𝓛 𝓜 𝓡) (λ κs a. tt) (λ κs a. id⊢ 𝓤 _))

@@ -19,7 +19,7 @@ use Rattle.in_place.proofs.Panel.{step_outcome}
 use Rattle.in_place.proofs.Params.{Param, number}
 use Rattle.lent_record.proofs.Loop.{Arguments}
 use Rattle.lent_record.proofs.LoopMet.{safe, sum_ended, iterations}
-use Rattle.lent_record.proofs.LoopShared.{shared, shared_stay, shared_callee, shared_goes, shared_kept, shared-calls}
+use Rattle.lent_record.proofs.LoopShared.{shared, shared_stay, shared_callee, shared_goes, shared_kept, shared_calls}
 use Rattle.step_speed.specs.contracts.sums.with_step as sum
 use Rattle.step_speed.proofs.sums.with_step.Met as sum-thm
 use Rattle.step_speed.proofs.sums.with_step.Symbol as sum-def
@@ -54,7 +54,7 @@ one-readers-steps-spec 𝓤 𝓛 𝓜 𝓡 =
       runs_before = λ i less Γ C Λ b₂ b₆ ms e₀ e₁ e₃ e₄ e₅ e₇ e₈ e₉ rest q. step (λ s. s);
       read = λ i y Γ b₂ b₆ ms e₀ e₁ e₃ e₄ e₅ e₇ e₈ e₉. and_then ! (load ! (from ! (stop !)) (look ! 2 refl)) (and_then ! (lit ! tt) (no_more !));
     })
-    (shared-calls 𝓛 step_outcome (𝓡.run (code.env #callee)) (run_framed 𝓤 𝓛.H 𝓜 𝓡 (code.env #callee)) ps
+    (shared_calls 𝓛 step_outcome (𝓡.run (code.env #callee)) (run_framed 𝓤 𝓛.H 𝓜 𝓡 (code.env #callee)) ps
     (safe 𝓛 𝓜 𝓡 (shared_callee step_outcome ps) code.env #callee callee-def.routine refl (callee.clauses 𝓛 𝓜.mem 𝓡.run) (callee-thm.met 𝓤 𝓛 𝓜 𝓡) (λ κs a. tt) (λ κs a. id⊢ 𝓤 _))
     (λ κs i. (5, tt)) (λ κs i fits. qed 𝓛 [] ∵ nothing ! $ owned ! u32 (Is u32) (uint_Makes 𝓛 w32) 5 _ (refl, small) $ fjoin ! $ done !) (λ i. vint w32 5 ∷ []) (λ κs i. refl))
     (safe 𝓛 𝓜 𝓡 (sum_ended step_outcome) code.env #sum sum-def.routine refl (sum.clauses 𝓛 𝓜.mem 𝓡.run) (sum-thm.met 𝓤 𝓛 𝓜 𝓡) (λ κs a. tt) (λ κs a. id⊢ 𝓤 _))

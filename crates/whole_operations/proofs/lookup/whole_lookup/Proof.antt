@@ -8,13 +8,13 @@ use Rattle.record.proofs.Numbered.{mapped_length}
 use Rattle.counting.specs.declared.steps.OperationKind.TheVariants.{Lookup}
 use Rattle.counting.specs.Steps.{step_bound}
 use Rattle.answers.specs.Answers.{Ending, completed, ended, outcome, unless_refused, refused, started}
-use Rattle.answers.proofs.AnswerLaws.{refused-call}
+use Rattle.answers.proofs.AnswerLaws.{refused_call}
 use Rattle.reader_step.specs.Reader.{lookup_ending}
 use Rattle.reader_starts.specs.Starts.{new_lookup, start_reader, start_lookup}
 use Rattle.whole_operations.specs.declared.searching.SearchEnd.{SearchEnd}
 use Rattle.whole_operations.specs.Whole.{until_ended, reader_step, whole_lookup}
 use Rattle.whole_operations.proofs.WholeLaws.{has_ended}
-use Rattle.whole_operations.proofs.WholeLookup.{looks-up, reach_fits}
+use Rattle.whole_operations.proofs.WholeLookup.{looks_up, reach_fits}
 use Rattle.whole_operations.proofs.lookup.whole_lookup.Statement.{statement}
 use Rattle.whole_operations.proofs.lookup.whole_lookup.Tie as tie
 
@@ -49,7 +49,7 @@ returns c =
     let e = sym c.before.before.before.judge-lookup.ensures ∙ ap paper_judged c.before.refusal.given.1 in
     sym (has_ended step bound (outcome a.panel s (refused (number_of refusal))) refl)
     ∙ ap (until_ended step bound)
-    (sym (ap (λ (n : ℕ). unless_refused n (outcome a.panel s) begun) e ∙ refused-call (outcome a.panel s) begun refusal))
+    (sym (ap (λ (n : ℕ). unless_refused n (outcome a.panel s) begun) e ∙ refused_call (outcome a.panel s) begun refusal))
 
 returns-2 : tie.Need-returns-2
 returns-2 c =
@@ -60,7 +60,7 @@ returns-2 c =
     let found = c.before.whole-search in
     ap (λ (ending : Ending). outcome a.panel s (ended (completed ending found.result.steps))) c.lookup-ending.ensures
     ∙ ap (λ (end : SearchEnd). outcome a.panel s (ended (completed (lookup_ending end.answer) end.steps))) found.ensures
-    ∙ looks-up a.panel s a.reader a.point sixteen e
+    ∙ looks_up a.panel s a.reader a.point sixteen e
 
 pub whole-lookup-spec : {M : Type 1} → statement M
 whole-lookup-spec =

@@ -29,7 +29,7 @@ returns c = rw c.enum_told.given.1
 
 returns-2 : tie.Need-returns-2
 unfolding work_access with_reach
-returns-2 c = rw c.before.before.work.given.1 c.put-access.ensures
+returns-2 c = rw c.before.before.work.given.1 c.put_access_lem.ensures
 
 returns-3 : tie.Need-returns-3
 unfolding puts

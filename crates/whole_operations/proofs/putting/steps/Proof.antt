@@ -14,7 +14,7 @@ use Rattle.effects.specs.Effects.{paper_effect}
 use Rattle.writer.proofs.WriterLaws.{slots_length, AtWork}
 use Rattle.whole_operations.specs.Whole.{writer_step, leaves}
 use Rattle.whole_operations.specs.WholeFacts.{puts}
-use Rattle.whole_operations.proofs.WholeLaws.{fewer, still, OnTheWay, sets-out, arrives, steps_on}
+use Rattle.whole_operations.proofs.WholeLaws.{fewer, still, OnTheWay, sets_out, arrives, steps_on}
 use Rattle.whole_operations.proofs.WholeEnds.{stays_at_work}
 use Rattle.whole_operations.proofs.Puts.{effect_adds, counted_puts, step_kept}
 use Rattle.whole_operations.proofs.putting.steps.Statement.{statement}
@@ -43,7 +43,7 @@ loop-holds c =
     let start = c.before.before.before in
     let a = start.args in (
       refl,
-      sets-out writer_step AtWork _ a.budget _ (record { fits = start.requires.0; busy = start.requires.1 })
+      sets_out writer_step AtWork _ a.budget _ (record { fits = start.requires.0; busy = start.requires.1 })
           (c.while-underway.ensures ∙ ap (λ (b : Bool). cond b a.budget 0) (c.before.goes_on.ensures a.before)),
       λ h. refl,
       start.requires.2,

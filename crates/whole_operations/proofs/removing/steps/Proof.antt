@@ -16,7 +16,7 @@ use Rattle.effects.specs.Effects.{WriterEffect, updated, paper_effect}
 use Rattle.writer.proofs.WriterLaws.{slots_length, AtWork, works}
 use Rattle.whole_operations.specs.Whole.{writer_step, leaves}
 use Rattle.whole_operations.specs.WholeFacts.{index_uncounted}
-use Rattle.whole_operations.proofs.WholeLaws.{fewer, OnTheWay, sets-out, arrives, steps_on}
+use Rattle.whole_operations.proofs.WholeLaws.{fewer, OnTheWay, sets_out, arrives, steps_on}
 use Rattle.whole_operations.proofs.WholeEnds.{stays_at_work}
 use Rattle.whole_operations.proofs.WorkBeside.{step_beside}
 use Rattle.whole_operations.proofs.Removals.{Kept, begins_kept, counted_kept, step_keeps}
@@ -45,7 +45,7 @@ loop-holds c =
     let start = c.before.before.before in
     let a = start.args in (
       refl,
-      sets-out writer_step AtWork _ a.budget _ (record { fits = start.requires.0; busy = start.requires.1 })
+      sets_out writer_step AtWork _ a.budget _ (record { fits = start.requires.0; busy = start.requires.1 })
           (c.while-underway.ensures ∙ ap (λ (b : Bool). cond b a.budget 0) (c.before.goes_on.ensures a.before)),
       begins_kept a.panel a.begun.work start.requires.2,
     )

@@ -13,14 +13,14 @@ use Rattle.answers.specs.Answers.{paper_progress}
 use Rattle.effects.specs.Effects.{WriterEffect}
 use Rattle.removal.specs.Removal.{removal_answered}
 use Rattle.writer.specs.Starts.{removal_begun, start_removal}
-use Rattle.writer.proofs.WriterLaws.{removal-begins}
+use Rattle.writer.proofs.WriterLaws.{removal_begins}
 use Rattle.whole_operations.specs.declared.searching.SearchEnd.{SearchEnd}
 use Rattle.whole_operations.specs.Whole.{whole_removal, changes_of, leaves}
 use Rattle.whole_operations.specs.WholeFacts.{removes}
 use Rattle.whole_operations.proofs.ChangesMade.{hands_back}
-use Rattle.whole_operations.proofs.WholeEnds.{whole-removal-ends}
-use Rattle.whole_operations.proofs.WholeWriting.{reach_fits, run-refused}
-use Rattle.whole_operations.proofs.WriterSearch.{point_of_work, searching_by, answered_by, answered_removes, effect-at-work, whole-ended, has-answer}
+use Rattle.whole_operations.proofs.WholeEnds.{whole_removal_ends}
+use Rattle.whole_operations.proofs.WholeWriting.{reach_fits, run_refused}
+use Rattle.whole_operations.proofs.WriterSearch.{point_of_work, searching_by, answered_by, answered_removes, effect_at_work, whole_ended, has_answer}
 use Rattle.whole_operations.proofs.removing.whole_removal.Statement.{statement}
 use Rattle.whole_operations.proofs.removing.whole_removal.Tie as tie
 
@@ -54,7 +54,7 @@ steps-requires c κs =
     let answered : SearchEnd → WriterEffect = λ found. removal_answered (record { point = a.point; stage = Searching Unread; steps = found.steps }) found.answer in
     let count = ap (λ (found : SearchEnd). found.steps) c.before.before.whole-search.ensures in
     let effect = c.removal-answered.ensures ∙ ap answered c.before.before.whole-search.ensures in
-    let held = effect-at-work a.panel s a.point (removal_begun a.point) (step_bound Removal a.panel.k) e (omega arith) refl (λ steps answer. (answered_removes _ answer).0) refl refl (removal-begins a.panel s a.point) (whole-removal-ends a.panel s a.point) _ _ count effect in
+    let held = effect_at_work a.panel s a.point (removal_begun a.point) (step_bound Removal a.panel.k) e (omega arith) refl (λ steps answer. (answered_removes _ answer).0) refl refl (removal_begins a.panel s a.point) (whole_removal_ends a.panel s a.point) _ _ count effect in
     (held.fits, held.busy, ap (λ (m : WriterEffect). removes m.work) effect ∙ (answered_removes _ _).1)
 
 count-of-requires : tie.Need-count-of-requires
@@ -70,7 +70,7 @@ handed-back-requires c κs =
     let count = ap (λ (found : SearchEnd). found.steps) c.before.before.before.before.before.before.before.whole-search.ensures in
     let effect = c.before.before.before.before.before.removal-answered.ensures ∙ ap answered c.before.before.before.before.before.before.before.whole-search.ensures in
     let ran = c.before.before.before.before.steps.ensures in
-    has-answer a.panel s a.point (removal_begun a.point) (step_bound Removal a.panel.k) e (omega arith) refl (λ steps answer. (answered_removes _ answer).0) refl refl (removal-begins a.panel s a.point) (whole-removal-ends a.panel s a.point) _ _ count effect _ c.before.before.before.before.before.before.before.before.before.before.before.before.step-bound.ensures _ _ _ _ refl ran.1 ran.0
+    has_answer a.panel s a.point (removal_begun a.point) (step_bound Removal a.panel.k) e (omega arith) refl (λ steps answer. (answered_removes _ answer).0) refl refl (removal_begins a.panel s a.point) (whole_removal_ends a.panel s a.point) _ _ count effect _ c.before.before.before.before.before.before.before.before.before.before.before.before.step-bound.ensures _ _ _ _ refl ran.1 ran.0
 
 returns : tie.Need-returns
 unfolding whole_removal start_removal changes_of
@@ -78,7 +78,7 @@ returns c =
     let a = c.before.before.before.before.before.before.args in
     let s = a.slots.now in
     let e = sym c.before.before.before.judge-start.ensures ∙ ap paper_judged c.before.refusal.given.1 in
-    let same = run-refused a.panel s a.point _ (step_bound Removal a.panel.k) c.before.refusal.given.0.0 e in
+    let same = run_refused a.panel s a.point _ (step_bound Removal a.panel.k) c.before.refusal.given.0.0 e in
     (same, ap (changes_of a.panel) same)
 
 same_length : tie.Need-same-length
@@ -97,7 +97,7 @@ returns-2 c =
     let all = mapped_length a.panel.counts _ 64 c.before.before.before.before.before.before.before.before.before.before.before.before.before.before.before.well-formed.0.1.1.1.1.1.0.1.0.1 in
     let given = c.before.before.before.before.before.steps.result in
     hands_back a.panel given.changes c.before.count_of.result _ given.steps (paper_progress given.progress) c.handed_back.result (whole_removal a.panel s a.point) all c.before.count_of.ensures c.handed_back.ensures
-    (whole-ended a.panel s a.point (removal_begun a.point) (step_bound Removal a.panel.k) e (omega arith) refl (λ steps answer. (answered_removes _ answer).0) refl refl (removal-begins a.panel s a.point) (whole-removal-ends a.panel s a.point) _ _ count effect _ c.before.before.before.before.before.before.before.before.before.before.before.before.before.step-bound.ensures _ _ _ _ refl ran.1 ran.0)
+    (whole_ended a.panel s a.point (removal_begun a.point) (step_bound Removal a.panel.k) e (omega arith) refl (λ steps answer. (answered_removes _ answer).0) refl refl (removal_begins a.panel s a.point) (whole_removal_ends a.panel s a.point) _ _ count effect _ c.before.before.before.before.before.before.before.before.before.before.before.before.before.step-bound.ensures _ _ _ _ refl ran.1 ran.0)
 
 pub whole-removal-spec : {M : Type 1} → statement M
 whole-removal-spec =

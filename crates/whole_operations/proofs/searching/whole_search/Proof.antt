@@ -6,7 +6,7 @@ use borrow.Author.Rules.{rules}
 use Rattle.search.specs.declared.SearchAnswer.TheVariants.{Unknown}
 use Rattle.search.specs.Access.{word_read}
 use Rattle.search.specs.Search.{search_advance}
-use Rattle.whole_operations.proofs.WholeSearch.{FromIndex, AfterProbe, first-index, after-probe}
+use Rattle.whole_operations.proofs.WholeSearch.{FromIndex, AfterProbe, first_index, after_probe}
 use Rattle.whole_operations.proofs.searching.whole_search.Statement.{statement}
 use Rattle.whole_operations.proofs.searching.whole_search.Tie as tie
 
@@ -18,7 +18,7 @@ abbrev decreases-loop : tie.decreases-loop
 decreases-loop slots m point reach next₀ steps₀ next steps = reach + 1 - next
 
 loop-holds : tie.Need-loop-init invariant-loop decreases-loop
-loop-holds c = let a = c.before.args in (first-index a.slots.now a.m a.point a.reach, refl)
+loop-holds c = let a = c.before.args in (first_index a.slots.now a.m a.point a.reach, refl)
 
 search-access-requires : tie.Need-search-access-requires invariant-loop decreases-loop
 search-access-requires c κs = search rules
@@ -44,7 +44,7 @@ returns c =
     let stands = sym c.before.answer.given.1 ∙ c.before.before.before.search-advance.ensures ∙ ap (search_advance a.reach a.point _) (c.before.before.before.before.word_read.ensures ∙ ap (word_read a.slots.now) c.before.before.before.before.before.search-access.ensures) in
     ap (λ (n : ℕ). record { answer = answer; steps = n + 1 }) l.invariant.1
     ∙ subst (AfterProbe a.slots.now a.m a.point a.reach l.next) (sym stands)
-    (after-probe a.slots.now a.m a.point a.reach l.next l.invariant.0 (omega arith))
+    (after_probe a.slots.now a.m a.point a.reach l.next l.invariant.0 (omega arith))
 
 enum_told : tie.Need-enum-told invariant-loop decreases-loop
 enum_told c = search rules
@@ -62,7 +62,7 @@ loop-again c =
     let test = c.before.before.before.before.before.loop-test in
     let stands = sym c.enum_told.given.1 ∙ c.before.before.search-advance.ensures ∙ ap (search_advance a.reach a.point _) (c.before.before.before.word_read.ensures ∙ ap (word_read a.slots.now) c.before.before.before.before.search-access.ensures) in (
       subst (AfterProbe a.slots.now a.m a.point a.reach l.next) (sym stands)
-          (after-probe a.slots.now a.m a.point a.reach l.next l.invariant.0 (omega arith)),
+          (after_probe a.slots.now a.m a.point a.reach l.next l.invariant.0 (omega arith)),
       ap (λ (n : ℕ). n + 1) l.invariant.1,
     )
 

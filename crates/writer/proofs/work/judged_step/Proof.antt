@@ -6,7 +6,7 @@ use Rattle.refusal.specs.Refusals.{paper_judged}
 use Rattle.record.specs.declared.WriterWork.{WriterWork}
 use Rattle.counting.specs.Steps.{writer_counted}
 use Rattle.answers.specs.Answers.{unless_refused}
-use Rattle.answers.proofs.AnswerLaws.{refused-call, allowed-call}
+use Rattle.answers.proofs.AnswerLaws.{refused_call, allowed_call}
 use Rattle.writer.specs.Work.{work_left, work_runs, step_work}
 use Rattle.writer.proofs.work.judged_step.Statement.{statement}
 use Rattle.writer.proofs.work.judged_step.Tie as tie
@@ -33,7 +33,7 @@ returns c =
     let s = a.slots.now in
     let done = work_runs a.m a.k a.reach a.counts.now (writer_counted a.k a.work) s in
     let verdict = sym (ap paper_judged c.before.refusal.given.1) ∙ c.before.before.before.judge-step.ensures in
-    sym (refused-call (work_left a.work s) done c.before.refusal.given.0.0) ∙ ap (λ (n : ℕ). unless_refused n (work_left a.work s) done) verdict
+    sym (refused_call (work_left a.work s) done c.before.refusal.given.0.0) ∙ ap (λ (n : ℕ). unless_refused n (work_left a.work s) done) verdict
 
 same_length : tie.Need-same-length
 same_length c = search rules
@@ -47,7 +47,7 @@ returns-2 c =
     let verdict = sym (ap paper_judged c.before.before.before.before.before.enum_told.given.1) ∙ c.before.before.before.before.before.before.before.judge-step.ensures in
     c.before.before.run_step.ensures
     ∙ ap (λ (work : WriterWork). work_runs a.m a.k a.reach a.counts.now work s) c.before.before.before.before.writer-counted.ensures
-    ∙ sym (allowed-call (work_left a.work s) done)
+    ∙ sym (allowed_call (work_left a.work s) done)
     ∙ ap (λ (n : ℕ). unless_refused n (work_left a.work s) done) verdict
 
 pub judged-step-spec : {M : Type 1} → statement M

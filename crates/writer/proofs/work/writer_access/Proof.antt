@@ -31,15 +31,15 @@ returns c = rw c.enum_told.given.1
 
 returns-2 : tie.Need-returns-2
 unfolding work_access
-returns-2 c = rw c.before.before.work.given.1 c.put-access.ensures
+returns-2 c = rw c.before.before.work.given.1 c.put_access_lem.ensures
 
 returns-3 : tie.Need-returns-3
 unfolding work_access
-returns-3 c = rw c.before.before.work2.given.1 c.change-access.ensures
+returns-3 c = rw c.before.before.work2.given.1 c.change_access_lem.ensures
 
 returns-4 : tie.Need-returns-4
 unfolding work_access
-returns-4 c = rw c.before.before.work3.given.1 c.removal-access.ensures
+returns-4 c = rw c.before.before.work3.given.1 c.removal_access_lem.ensures
 
 pub writer-access-spec : {M : Type 1} → statement M
 writer-access-spec =

@@ -6,7 +6,7 @@ use record::{CommandAnswer, Record};
 use refusal::Refusal;
 
 // What ends a lookup, put, change or removal.
-#[derive(Drop)]
+#[derive(Clone, Copy)]
 pub enum Ending {
     // a lookup: the point's value
     LookedUp(u32),
@@ -23,14 +23,14 @@ pub enum Ending {
 }
 
 // Where a put stored its point: the slot, and the index of the position.
-#[derive(Drop)]
+#[derive(Clone, Copy)]
 pub struct Spot {
     pub slot: u32,
     pub index: u32,
 }
 
 // A lookup, put, change or removal that has ended.
-#[derive(Drop)]
+#[derive(Clone, Copy)]
 pub struct Completion {
     pub ending: Ending,
     // the number of steps it took
@@ -38,14 +38,14 @@ pub struct Completion {
 }
 
 // What a put, change or removal comes to in a step.
-#[derive(Drop)]
+#[derive(Clone, Copy)]
 pub enum Progress {
     Underway,
     Ended(Ending),
 }
 
 // What a step gives that is carried out.
-#[derive(Drop)]
+#[derive(Clone, Copy)]
 pub enum StepResult {
     Underway,
     Ended(Completion),
@@ -56,21 +56,21 @@ pub enum StepResult {
 }
 
 // Of a step, a reader's or the writer's.
-#[derive(Drop)]
+#[derive(Clone, Copy)]
 pub enum StepAnswer {
     Stepped(StepResult),
     Refused(Refusal),
 }
 
 // Of the calls that start an operation.
-#[derive(Drop)]
+#[derive(Clone, Copy)]
 pub enum StartAnswer {
     Started,
     Refused(Refusal),
 }
 
 // Of the command entry.
-#[derive(Drop)]
+#[derive(Clone, Copy)]
 pub enum EntryAnswer {
     Started,
     // the station's last command again: its stored answer, which takes no step
@@ -79,7 +79,7 @@ pub enum EntryAnswer {
 }
 
 // Of a turn.
-#[derive(Drop)]
+#[derive(Clone, Copy)]
 pub enum TurnAnswer {
     // the party served, 0 the writer and n + 1 reader n, and what its step gave
     Served { party: u32, result: StepResult },
@@ -87,7 +87,7 @@ pub enum TurnAnswer {
 }
 
 // Of any call of a list: each answer of the four kinds above once.
-#[derive(Drop)]
+#[derive(Clone, Copy)]
 pub enum CallAnswer {
     Started,
     GivenAgain { answer: CommandAnswer, steps: u32 },
@@ -97,42 +97,42 @@ pub enum CallAnswer {
 }
 
 // Of an operation that is carried out whole.
-#[derive(Drop)]
+#[derive(Clone, Copy)]
 pub enum WholeAnswer {
     Ended(Completion),
     Refused(Refusal),
 }
 
 // Of `fresh`.
-#[derive(Drop)]
+#[derive(Clone, Copy)]
 pub enum FreshAnswer {
     Made,
     Refused(Refusal),
 }
 
 // Of `disabled_total`.
-#[derive(Drop)]
+#[derive(Clone, Copy)]
 pub enum TotalAnswer {
     Total(u32),
     Refused(Refusal),
 }
 
 // Of `disabled_point`.
-#[derive(Drop)]
+#[derive(Clone, Copy)]
 pub enum DisplayAnswer {
     Shown(u32),
     Refused(Refusal),
 }
 
 // What a start leaves.
-#[derive(Drop)]
+#[derive(Clone, Copy)]
 pub struct StartOutcome {
     pub panel: Record,
     pub answer: StartAnswer,
 }
 
 // What the command entry leaves.
-#[derive(Drop)]
+#[derive(Clone, Copy)]
 pub struct EntryOutcome {
     pub panel: Record,
     pub answer: EntryAnswer,
@@ -140,28 +140,28 @@ pub struct EntryOutcome {
 
 // What a step leaves. An answer that holds a word lies in front of the record: behind it there may be
 // padding between the two, with which the compiler copies the record more often.
-#[derive(Drop)]
+#[derive(Clone, Copy)]
 pub struct StepOutcome {
     pub answer: StepAnswer,
     pub panel: Record,
 }
 
 // What a turn leaves.
-#[derive(Drop)]
+#[derive(Clone, Copy)]
 pub struct TurnOutcome {
     pub answer: TurnAnswer,
     pub panel: Record,
 }
 
 // What any call of a list leaves.
-#[derive(Drop)]
+#[derive(Clone, Copy)]
 pub struct CallOutcome {
     pub answer: CallAnswer,
     pub panel: Record,
 }
 
 // What `fresh` leaves.
-#[derive(Drop)]
+#[derive(Clone, Copy)]
 pub struct FreshOutcome {
     pub panel: Record,
     pub answer: FreshAnswer,

@@ -13,7 +13,7 @@ use record::Record;
 use whole_operations::{Changes, Written, whole_lookup, whole_put, whole_removal};
 
 // What a line changes in the record, and how much of the output's buffer is in use.
-#[derive(Drop)]
+#[derive(Clone, Copy)]
 pub(crate) struct Done {
     pub changes: Changes,
     pub filled: usize,

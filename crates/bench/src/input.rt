@@ -2,7 +2,7 @@
 use line::{Field, Fields, Line, part_of};
 
 // The line that is read, as far as the buffer has it.
-#[derive(Drop)]
+#[derive(Clone, Copy)]
 pub(crate) struct Reading {
     pub line: Line,
     // nothing of it is left to be read

@@ -87,7 +87,7 @@ fn refuse(text: &mut [u8]) {
 
 // The record after the lines that have been run, the line behind them, how many there were, and how much
 // of the output's buffer is in use.
-#[derive(Drop)]
+#[derive(Clone, Copy)]
 struct Run {
     panel: Record,
     reading: Reading,

@@ -16,7 +16,7 @@ use record::Record;
 use writer::{start_change, start_put, start_removal, step_writer};
 
 // A call with its arguments. A command's frame is lent beside it.
-#[derive(Drop)]
+#[derive(Clone, Copy)]
 pub enum Call {
     StartLookup { reader: u32, point: u32 },
     StartWalk { reader: u32 },

@@ -17,7 +17,7 @@ use record_ranges::is_in_range;
 use refusal::Refusal;
 
 // Document 01's command: station, number, point and action.
-#[derive(Drop)]
+#[derive(Clone, Copy)]
 pub struct Sent {
     pub station: u32,
     pub number: u32,
@@ -26,7 +26,7 @@ pub struct Sent {
 }
 
 // What the bytes of a frame were taken for.
-#[derive(Drop)]
+#[derive(Clone, Copy)]
 enum Received {
     Command(Sent),
     Refused(Refusal),

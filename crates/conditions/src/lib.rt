@@ -1,9 +1,12 @@
 // Conditions joined by calls, since `&&` and `||` would split the proof of each caller; and conditions on
 // a number.
+#![tactic(auto)]
+
 ghost use Rattle.std.specs.Prelude.{◌≡◌};
 ghost use Rattle.conditions.specs.Conditions.{both, either, within, outside};
 
 // Both hold.
+#[tactic(auto, unfolding(crate::specs::Conditions::both))]
 pub fn both_hold(a: bool, b: bool) -> bool
     ensures { result ≡ both a b }
 {
@@ -11,6 +14,7 @@ pub fn both_hold(a: bool, b: bool) -> bool
 }
 
 // One of them holds, or both do.
+#[tactic(auto, unfolding(crate::specs::Conditions::either))]
 pub fn either_holds(a: bool, b: bool) -> bool
     ensures { result ≡ either a b }
 {
@@ -18,6 +22,7 @@ pub fn either_holds(a: bool, b: bool) -> bool
 }
 
 // x lies from `low` to `high`.
+#[tactic(auto, unfolding(crate::specs::Conditions::within))]
 pub fn is_within(low: u32, x: u32, high: u32) -> bool
     ensures { result ≡ within low x high }
 {
@@ -25,6 +30,7 @@ pub fn is_within(low: u32, x: u32, high: u32) -> bool
 }
 
 // x lies below `low` or above `high`.
+#[tactic(auto, unfolding(crate::specs::Conditions::outside))]
 pub fn is_outside(low: u32, x: u32, high: u32) -> bool
     ensures { result ≡ outside low x high }
 {

@@ -7,7 +7,7 @@ use crate::one_more;
 use record::{Change, Lookup, Put, ReaderWork, Removal, WriterWork};
 
 // The operations whose steps are counted. A walk's are not.
-#[derive(Drop)]
+#[derive(Clone, Copy)]
 pub enum OperationKind {
     Lookup,
     Put,

@@ -1,7 +1,7 @@
 // A digest of numbers: two checksums by two prime numbers, so that no two numbers of 32 bits count the
 // same in both.
 
-#[derive(Drop)]
+#[derive(Clone, Copy)]
 pub(crate) struct Digest {
     pub(crate) first: u32,
     pub(crate) second: u32,

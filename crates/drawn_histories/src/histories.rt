@@ -16,7 +16,7 @@ use record::Record;
 use slot_words::taken::taken_slots;
 
 // How far a history is: the record, the generator's last value, and the digest since the last line.
-#[derive(Drop)]
+#[derive(Clone, Copy)]
 struct Progress {
     panel: Record,
     drawn: u32,

@@ -14,7 +14,7 @@ mod state_digest;
 mod work_digest;
 
 // How the calls are carried out: by `apply`, or each by the call in place of its kind.
-#[derive(Drop)]
+#[derive(Clone, Copy)]
 pub(crate) enum Way {
     ByValue,
     InPlace,

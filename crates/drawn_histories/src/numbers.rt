@@ -5,7 +5,7 @@ ghost use Rattle.hash.specs.Position.{next_of};
 use hash::next;
 
 // The five numbers that a call is drawn by, in their order.
-#[derive(Drop)]
+#[derive(Clone, Copy)]
 pub(crate) struct Draws {
     pub(crate) which: u32,
     pub(crate) party: u32,

@@ -28,7 +28,7 @@ fn panel_in(out: &mut [u8], m: u32, k: u32) -> usize {
 }
 
 // What a hundred calls have come to.
-#[derive(Drop)]
+#[derive(Clone, Copy)]
 pub(crate) struct Hundred {
     pub made: u32,
     pub first: u32,

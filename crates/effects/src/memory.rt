@@ -6,7 +6,7 @@ ghost use Rattle.effects.specs.Memory.{store_word, slot_stored, access_read, slo
 use search::access::{ReadAccess, word_read};
 
 // What a step of the writer touches.
-#[derive(Drop)]
+#[derive(Clone, Copy)]
 pub enum WriterAccess {
     Read(ReadAccess),
     // the reach stands in the record
@@ -14,7 +14,7 @@ pub enum WriterAccess {
     StoreSlot(Store),
 }
 
-#[derive(Drop)]
+#[derive(Clone, Copy)]
 pub struct Store {
     pub slot: u32,
     pub word: u64,

@@ -10,7 +10,7 @@ use counting::one_more;
 use record::parts::{numbered_place, with_reach, with_station};
 use record::{Record, Station, WriterWork};
 
-#[derive(Drop)]
+#[derive(Clone, Copy)]
 pub struct Effect {
     pub work: WriterWork,
     pub update: Update,
@@ -18,7 +18,7 @@ pub struct Effect {
 }
 
 // What a step changes in the record besides the writer's work.
-#[derive(Drop)]
+#[derive(Clone, Copy)]
 pub enum Update {
     Nothing,
     Reach(u32),
@@ -30,7 +30,7 @@ pub enum Update {
 }
 
 // A station's last command, with its answer.
-#[derive(Drop)]
+#[derive(Clone, Copy)]
 pub struct LastCommand {
     pub station: u32,
     pub last: Station,

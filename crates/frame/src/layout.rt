@@ -5,7 +5,7 @@ ghost use Rattle.frame.specs.Layouts.{layout_of};
 use crate::Kind;
 
 // The places of a frame's fields, 0 where the map lacks one.
-#[derive(Drop)]
+#[derive(Clone, Copy)]
 pub(crate) struct Layout {
     pub kind: Kind,
     pub length: u32,
@@ -17,7 +17,7 @@ pub(crate) struct Layout {
     pub refusal: u32,
 }
 
-#[derive(Drop)]
+#[derive(Clone, Copy)]
 pub(crate) enum MapByte {
     Frame(Layout),
     NotAllowed,

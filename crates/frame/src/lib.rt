@@ -16,7 +16,7 @@ pub use frame_writer::write;
 use refusal::Refusal;
 
 // The six kinds of frame.
-#[derive(Drop)]
+#[derive(Clone, Copy)]
 pub enum Kind {
     Query,
     Command,
@@ -43,7 +43,7 @@ impl Kind {
 }
 
 // A frame's fields. One that the map lacks reads as 0 and is ignored when writing.
-#[derive(Drop)]
+#[derive(Clone, Copy)]
 pub struct Fields {
     pub station: u32,
     pub number: u32,
@@ -54,7 +54,7 @@ pub struct Fields {
 }
 
 // What reading a byte string found.
-#[derive(Drop)]
+#[derive(Clone, Copy)]
 pub enum ReadAnswer {
     Frame(Kind, Fields),
     Refused(Refusal),
@@ -89,7 +89,7 @@ impl ReadAnswer {
 
 // What a reader hands back, in document 01's numbers: the refusal or 0, the map and the fields. With
 // a refusal all but the first are 0.
-#[derive(Drop)]
+#[derive(Clone, Copy)]
 pub struct Reading {
     pub refused: u32,
     pub map: u32,
@@ -97,7 +97,7 @@ pub struct Reading {
 }
 
 // What became of a frame to write.
-#[derive(Drop)]
+#[derive(Clone, Copy)]
 pub enum WriteAnswer {
     // the number of bytes written
     Written(u32),

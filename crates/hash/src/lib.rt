@@ -1,4 +1,6 @@
 // Where a point may sit: the Park-Miller generator, and the 64 hash functions that its values make.
+#![tactic(auto)]
+
 ghost use Rattle.std.specs.Prelude.{◌≡◌, ◌<◌, true};
 ghost use Rattle.hash.specs.Position.{next_of, z, carter_wegman, position_of};
 ghost use Rattle.hash.specs.Table.{is_table, Begins, coefficient_of};
@@ -24,6 +26,7 @@ const COEFFICIENTS: [u32; 128] = [
 ];
 
 // z(n), worked out by the recurrence.
+#[tactic(auto, unfolding(crate::specs::Position::z))]
 pub fn generated(n: u32) -> u32
     ensures { result ≡ z n }
 {

@@ -13,7 +13,7 @@ use record_ranges::{are_counts_in_range, are_parts_in_range, reader_joined};
 use std::num::wrapping_add_u32;
 
 // What is seen of the readers so far: whether they are in range, and the marks of who has work.
-#[derive(Drop)]
+#[derive(Clone, Copy)]
 pub(crate) struct Seen {
     fit: bool,
     marks: u32,

@@ -6,7 +6,7 @@ ghost use Rattle.line.specs.LineState.{command_of, point_command, put_command};
 use crate::field::{Field, Reading, is_letter, number_of};
 use crate::state::{Fields, Line};
 
-#[derive(Drop)]
+#[derive(Clone, Copy)]
 pub enum CommandLine {
     Put(PutLine),
     Lookup(u32),
@@ -14,7 +14,7 @@ pub enum CommandLine {
     Unreadable,
 }
 
-#[derive(Drop)]
+#[derive(Clone, Copy)]
 pub struct PutLine {
     pub point: u32,
     pub value: u32,

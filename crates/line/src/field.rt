@@ -5,7 +5,7 @@ ghost use Rattle.line.specs.LineState.{field_more, first_byte, digits_more, digi
 
 use conditions::is_within;
 
-#[derive(Drop)]
+#[derive(Clone, Copy)]
 pub enum Field {
     Empty,
     // one byte that is no digit
@@ -16,13 +16,13 @@ pub enum Field {
 }
 
 // 1 to 10 digits, and what they say.
-#[derive(Drop)]
+#[derive(Clone, Copy)]
 pub struct Digits {
     pub count: u32,
     pub value: u32,
 }
 
-#[derive(Drop)]
+#[derive(Clone, Copy)]
 pub(crate) enum Reading {
     Number(u32),
     NoNumber,

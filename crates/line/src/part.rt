@@ -7,7 +7,7 @@ use crate::run::{digits_run, lesser};
 use crate::state::{Line, more};
 
 // The line with all the bytes that the buffer holds of it.
-#[derive(Drop)]
+#[derive(Clone, Copy)]
 pub struct Part {
     pub line: Line,
     // its line end was read

@@ -6,7 +6,7 @@ ghost use Rattle.line.specs.LineParts.{run_of};
 use crate::field::{Field, digits_field, is_digit};
 
 // A field, and the place behind what it was read from.
-#[derive(Drop)]
+#[derive(Clone, Copy)]
 pub(crate) struct Run {
     pub field: Field,
     pub next: usize,

@@ -6,13 +6,13 @@ ghost use Rattle.line.specs.LineState.{sizes_of};
 use crate::field::{Reading, number_of};
 use crate::state::{Fields, Line};
 
-#[derive(Drop)]
+#[derive(Clone, Copy)]
 pub enum SizesLine {
     Sizes(Sizes),
     Unreadable,
 }
 
-#[derive(Drop)]
+#[derive(Clone, Copy)]
 pub struct Sizes {
     pub m: u32,
     pub k: u32,

@@ -4,14 +4,14 @@ ghost use Rattle.line.specs.LineState.{line_begin, line_more, with_ended};
 
 use crate::field::{Field, field_more};
 
-#[derive(Drop)]
+#[derive(Clone, Copy)]
 pub struct Line {
     pub ended: Fields,
     pub last: Field,
 }
 
 // No readable line has more than three fields, the last one included.
-#[derive(Drop)]
+#[derive(Clone, Copy)]
 pub enum Fields {
     Nothing,
     One(Field),

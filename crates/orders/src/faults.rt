@@ -1,6 +1,6 @@
 // Why a line cannot be read.
 
-#[derive(Drop)]
+#[derive(Clone, Copy)]
 pub(crate) enum Fault {
     // no fault so far
     Nothing,
@@ -18,7 +18,7 @@ pub(crate) enum Fault {
 }
 
 // What a number in a line stands for.
-#[derive(Drop)]
+#[derive(Clone, Copy)]
 pub(crate) enum Argument {
     // no number stands there
     Nothing,

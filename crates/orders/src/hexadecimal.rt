@@ -7,14 +7,14 @@ use crate::words::is_blank;
 const TOO_MANY: usize = 65;
 
 // The digits so far.
-#[derive(Drop)]
+#[derive(Clone, Copy)]
 struct FrameDigits {
     count: usize,
     are_hexadecimal: bool,
 }
 
 // The number of bytes, if there is no fault.
-#[derive(Drop)]
+#[derive(Clone, Copy)]
 pub(crate) struct FrameRead {
     pub count: usize,
     pub fault: Fault,

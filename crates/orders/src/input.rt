@@ -5,7 +5,7 @@ ghost use Rattle.std.specs.Prelude.{◌≤◌, length as size};
 const LINE: usize = 256;
 
 // A part of a line: all that the buffer has of it.
-#[derive(Drop)]
+#[derive(Clone, Copy)]
 pub(crate) struct Part {
     // the line's bytes so far; one more than the longest line has stands for any number above
     pub length: usize,

@@ -12,7 +12,7 @@ use calls::Call;
 use fresh_panel::fresh;
 use panel_and_list::{PanelState, carry_out, opened};
 
-#[derive(Drop)]
+#[derive(Clone, Copy)]
 pub(crate) struct Run {
     pub state: PanelState,
     // a panel was made

@@ -67,7 +67,7 @@ fn begin() -> Progress {
 }
 
 // The run so far, and how many bytes the line has of which only a part was read.
-#[derive(Drop)]
+#[derive(Clone, Copy)]
 struct Progress {
     run: Run,
     length: usize,

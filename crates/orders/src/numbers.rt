@@ -3,28 +3,28 @@ use crate::faults::{Argument, Fault, earlier};
 use crate::words::{is_blank, skip_blanks};
 
 // How far a line is read, and the first fault so far.
-#[derive(Drop)]
+#[derive(Clone, Copy)]
 pub(crate) struct Cursor {
     pub at: usize,
     pub fault: Fault,
 }
 
 // The numbers of a line in their order, 0 where there is none, and the cursor behind them.
-#[derive(Drop)]
+#[derive(Clone, Copy)]
 pub(crate) struct Taken {
     pub values: [u32; 3],
     pub next: Cursor,
 }
 
 // A number, and the cursor behind it.
-#[derive(Drop)]
+#[derive(Clone, Copy)]
 struct TakenNumber {
     value: u32,
     next: Cursor,
 }
 
 // The digits of a word. A value above 4294967295 says only that it is.
-#[derive(Drop)]
+#[derive(Clone, Copy)]
 struct Digits {
     is_number: bool,
     value: u64,

@@ -5,7 +5,7 @@ use crate::numbers::{Cursor, numbers};
 use crate::words::{is_word, skip_blanks, word_end};
 use calls::Call;
 
-#[derive(Drop)]
+#[derive(Clone, Copy)]
 pub(crate) enum Order {
     // an empty line, or a comment
     Nothing,
@@ -17,7 +17,7 @@ pub(crate) enum Order {
 }
 
 // The words that a line may begin with.
-#[derive(Drop)]
+#[derive(Clone, Copy)]
 enum Form {
     Panel,
     StartLookup,

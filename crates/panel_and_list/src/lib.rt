@@ -12,7 +12,7 @@ use plain_rows::Operation;
 use record::Record;
 
 // What is noted of the writer's operation underway; where there is none, nothing is asked or fed.
-#[derive(Drop)]
+#[derive(Clone, Copy)]
 pub struct Notes {
     // the arguments of the call that started it
     pub asked: Operation,
@@ -21,7 +21,7 @@ pub struct Notes {
 }
 
 // The slots and the list's rows are lent beside it.
-#[derive(Drop)]
+#[derive(Clone, Copy)]
 pub struct PanelState {
     pub panel: Record,
     pub notes: Notes,
@@ -29,7 +29,7 @@ pub struct PanelState {
     pub rows: usize,
 }
 
-#[derive(Drop)]
+#[derive(Clone, Copy)]
 pub struct Carried {
     pub state: PanelState,
     pub answer: CallAnswer,

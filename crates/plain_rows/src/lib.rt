@@ -13,7 +13,7 @@ use operations::{change_row, misfit, put_row, remove_row, unknown};
 use rows::has_room;
 
 // An operation with its arguments, as the list is fed.
-#[derive(Drop)]
+#[derive(Clone, Copy)]
 pub enum Operation {
     Nothing,
     Put { point: u32, value: u32 },
@@ -22,7 +22,7 @@ pub enum Operation {
 }
 
 // What feeding leaves besides the slices: how many rows there are, and what the list answers.
-#[derive(Drop)]
+#[derive(Clone, Copy)]
 pub struct Fed {
     pub count: usize,
     pub answer: WholeAnswer,

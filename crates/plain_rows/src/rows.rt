@@ -8,7 +8,7 @@ use conditions::both_hold;
 use slot_words::word::{point_of, value_of, word_of};
 
 // A point's row: none, or its value and place.
-#[derive(Drop)]
+#[derive(Clone, Copy)]
 pub(crate) enum Entry {
     Absent,
     Present { value: u32, place: u32 },

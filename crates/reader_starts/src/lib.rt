@@ -14,7 +14,7 @@ use refusal::{Judged, Refusal};
 use slot_words::points::is_valid_point;
 
 // A reader after the start of its lookup or walk, and the answer.
-#[derive(Drop)]
+#[derive(Clone, Copy)]
 pub struct StartedReader {
     pub reader: Reader,
     pub answer: StartAnswer,

@@ -16,14 +16,14 @@ use search::access::{ReadAccess, word_read};
 use search::{SearchAnswer, Searched, search_access, search_advance};
 
 // What a reader's step comes to: its work after it, and what it gives.
-#[derive(Drop)]
+#[derive(Clone, Copy)]
 pub struct Effect {
     pub work: ReaderWork,
     pub result: StepResult,
 }
 
 // A reader after its step, and the answer.
-#[derive(Drop)]
+#[derive(Clone, Copy)]
 pub struct SteppedReader {
     pub reader: Reader,
     pub answer: StepAnswer,

@@ -6,7 +6,7 @@ pub mod parts;
 
 // The record. A call's parameter of this type is called `panel`, since the proof language reserves the
 // word.
-#[derive(Drop)]
+#[derive(Clone, Copy)]
 pub struct Record {
     // the number of slots
     pub m: u32,
@@ -25,14 +25,14 @@ pub struct Record {
 }
 
 // How far a search for a point is. Lookups and the writer's operations share it.
-#[derive(Drop)]
+#[derive(Clone, Copy)]
 pub enum Search {
     // the reach is still to be read
     Unread,
     Probing(Probe),
 }
 
-#[derive(Drop)]
+#[derive(Clone, Copy)]
 pub struct Probe {
     // the reach as the search read it
     pub reach: u32,
@@ -41,25 +41,25 @@ pub struct Probe {
 }
 
 // Where a search found its point: the position's index, and the value read there.
-#[derive(Drop)]
+#[derive(Clone, Copy)]
 pub struct Place {
     pub index: u32,
     pub value: u32,
 }
 
-#[derive(Drop)]
+#[derive(Clone, Copy)]
 pub struct Reader {
     pub work: ReaderWork,
 }
 
-#[derive(Drop)]
+#[derive(Clone, Copy)]
 pub enum ReaderWork {
     Idle,
     LookingUp(Lookup),
     Walking(Walk),
 }
 
-#[derive(Drop)]
+#[derive(Clone, Copy)]
 pub struct Lookup {
     pub point: u32,
     pub search: Search,
@@ -67,18 +67,18 @@ pub struct Lookup {
     pub steps: u32,
 }
 
-#[derive(Drop)]
+#[derive(Clone, Copy)]
 pub struct Walk {
     // the slot that is read next
     pub next: u32,
 }
 
-#[derive(Drop)]
+#[derive(Clone, Copy)]
 pub struct Writer {
     pub work: WriterWork,
 }
 
-#[derive(Drop)]
+#[derive(Clone, Copy)]
 pub enum WriterWork {
     Idle,
     Putting(Put),
@@ -86,7 +86,7 @@ pub enum WriterWork {
     Removing(Removal),
 }
 
-#[derive(Drop)]
+#[derive(Clone, Copy)]
 pub struct Put {
     pub point: u32,
     pub value: u32,
@@ -95,7 +95,7 @@ pub struct Put {
     pub steps: u32,
 }
 
-#[derive(Drop)]
+#[derive(Clone, Copy)]
 pub enum PutStage {
     Searching(Search),
     // not found: the second search, by the index of the position that is read next
@@ -106,7 +106,7 @@ pub enum PutStage {
     Chosen(u32),
 }
 
-#[derive(Drop)]
+#[derive(Clone, Copy)]
 pub struct Change {
     pub point: u32,
     pub alteration: Alteration,
@@ -116,7 +116,7 @@ pub struct Change {
 }
 
 // What a change makes of the value.
-#[derive(Drop)]
+#[derive(Clone, Copy)]
 pub enum Alteration {
     Given(Masks),
     // a command's change, whose masks follow from its action
@@ -124,26 +124,26 @@ pub enum Alteration {
 }
 
 // (value AND keep) XOR flip
-#[derive(Drop)]
+#[derive(Clone, Copy)]
 pub struct Masks {
     pub keep: u32,
     pub flip: u32,
 }
 
-#[derive(Drop)]
+#[derive(Clone, Copy)]
 pub struct Command {
     pub station: u32,
     pub number: u32,
     pub action: u32,
 }
 
-#[derive(Drop)]
+#[derive(Clone, Copy)]
 pub enum ChangeStage {
     Searching(Search),
     Found(Place),
 }
 
-#[derive(Drop)]
+#[derive(Clone, Copy)]
 pub struct Removal {
     pub point: u32,
     pub stage: RemovalStage,
@@ -151,7 +151,7 @@ pub struct Removal {
     pub steps: u32,
 }
 
-#[derive(Drop)]
+#[derive(Clone, Copy)]
 pub enum RemovalStage {
     Searching(Search),
     Found(Place),
@@ -160,7 +160,7 @@ pub enum RemovalStage {
 }
 
 // A station's last command with its answer; number 0 as long as it sent none.
-#[derive(Drop)]
+#[derive(Clone, Copy)]
 pub struct Station {
     pub number: u32,
     pub point: u32,
@@ -168,7 +168,7 @@ pub struct Station {
     pub answer: CommandAnswer,
 }
 
-#[derive(Drop)]
+#[derive(Clone, Copy)]
 pub enum CommandAnswer {
     Value(u32),
     // refusal 7

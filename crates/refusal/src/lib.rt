@@ -1,8 +1,10 @@
 // Document 01's refusal table: one enum, the number and the word of each row.
+#![tactic(auto)]
+
 ghost use Rattle.std.specs.Prelude.{◌≡◌};
 ghost use Rattle.refusal.specs.Refusals.{number_of, word_of, codes, word, spelt};
 
-#[derive(Drop)]
+#[derive(Clone, Copy)]
 pub enum Refusal {
     // m, k or a record field out of range, or slots lent other than m
     Misfit,
@@ -81,14 +83,14 @@ impl Refusal {
 }
 
 // What the tests of a call came to.
-#[derive(Drop)]
+#[derive(Clone, Copy)]
 pub enum Judged {
     Allowed,
     Refused(Refusal),
 }
 
 // A word of the table in ASCII: the first `length` of the letters, and zeros behind them.
-#[derive(Drop)]
+#[derive(Clone, Copy)]
 pub struct Word {
     pub letters: [u8; 8],
     pub length: usize,

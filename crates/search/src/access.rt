@@ -3,7 +3,7 @@ ghost use Rattle.std.specs.Prelude.{◌≡◌, get_or};
 ghost use Rattle.search.specs.Access.{word_read};
 
 // What a reading step touches.
-#[derive(Drop)]
+#[derive(Clone, Copy)]
 pub enum ReadAccess {
     // a party without work makes no access
     Nothing,

@@ -9,14 +9,14 @@ use record::{Place, Probe, Search};
 use slot_words::word::{point_of, value_of};
 
 // How a search stands after one of its steps.
-#[derive(Drop)]
+#[derive(Clone, Copy)]
 pub enum Searched {
     Going(Search),
     Answered(SearchAnswer),
 }
 
 // What a search ends with.
-#[derive(Drop)]
+#[derive(Clone, Copy)]
 pub enum SearchAnswer {
     Found(Place),
     Unknown,

@@ -4,6 +4,7 @@ ghost use Rattle.slot_words.specs.Points.{valid_point, disabled};
 
 use conditions::is_within;
 
+#[tactic(auto, unfolding(crate::specs::Points::valid_point))]
 pub fn is_valid_point(point: u32) -> bool
     ensures { result ≡ valid_point point }
 {
@@ -11,6 +12,7 @@ pub fn is_valid_point(point: u32) -> bool
 }
 
 // By the point's value.
+#[tactic(auto, unfolding(crate::specs::Points::disabled))]
 pub fn is_disabled(value: u32) -> bool
     ensures { result ≡ disabled value }
 {

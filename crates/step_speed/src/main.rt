@@ -12,7 +12,7 @@ mod sums;
 use runs::Tally;
 
 // How the calls are made.
-#[derive(Drop)]
+#[derive(Clone, Copy)]
 pub(crate) enum Way {
     ByValue,
     InPlace,

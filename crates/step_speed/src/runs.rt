@@ -6,7 +6,7 @@ use record::Record;
 use std::num::wrapping_add_u64;
 
 // The calls made, and the sum of what they answered.
-#[derive(Drop)]
+#[derive(Clone, Copy)]
 pub(crate) struct Tally {
     pub calls: u64,
     pub sum: u64,

@@ -12,7 +12,7 @@ use record::{
 
 // A fresh record of 8 slots and 4 functions with one field altered, by numbers that the field has then.
 // What is not named is in range.
-#[derive(Drop)]
+#[derive(Clone, Copy)]
 enum Altered {
     M(u32),
     K(u32),

@@ -12,7 +12,7 @@ use record::{Record, WriterWork};
 use refusal::Refusal;
 
 // What the operation changes in the record. The writer is idle again.
-#[derive(Drop)]
+#[derive(Clone, Copy)]
 pub struct Changes {
     // the reach after it
     pub reach: u32,
@@ -23,21 +23,21 @@ pub struct Changes {
 }
 
 // An operation that was carried out to its end.
-#[derive(Drop)]
+#[derive(Clone, Copy)]
 pub struct Finished {
     pub changes: Changes,
     pub completion: Completion,
 }
 
 // What a whole put or removal hands back. With a refusal there is no other number.
-#[derive(Drop)]
+#[derive(Clone, Copy)]
 pub enum Written {
     Refused(Refusal),
     Done(Finished),
 }
 
 // What the steps of an operation come to, and the work that is left where the budget was used up.
-#[derive(Drop)]
+#[derive(Clone, Copy)]
 pub(crate) struct Ran {
     // with the index that was counted or uncounted, also where its count is as it was
     pub changes: Changes,

@@ -8,7 +8,7 @@ use search::access::word_read;
 use search::{SearchAnswer, Searched, search_access, search_advance};
 
 // What a search came to, and how many steps it took.
-#[derive(Drop)]
+#[derive(Clone, Copy)]
 pub(crate) struct SearchEnd {
     pub answer: SearchAnswer,
     pub steps: u32,

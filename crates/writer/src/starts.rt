@@ -16,7 +16,7 @@ use refusal::{Judged, Refusal};
 use slot_words::points::is_valid_point;
 
 // The writer after a start, and its answer.
-#[derive(Drop)]
+#[derive(Clone, Copy)]
 pub struct StartedWriter {
     pub writer: Writer,
     pub answer: StartAnswer,

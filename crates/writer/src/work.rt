@@ -23,7 +23,7 @@ use search::access::ReadAccess;
 
 // What a step stores in the record, and its answer. Where it changes no count, no reach or no station,
 // these are what they were.
-#[derive(Drop)]
+#[derive(Clone, Copy)]
 pub struct SteppedWriter {
     pub writer: Writer,
     pub reach: u32,
@@ -36,7 +36,7 @@ pub struct SteppedWriter {
 }
 
 // The work after a step, what changes in the record besides, and the answer.
-#[derive(Drop)]
+#[derive(Clone, Copy)]
 pub(crate) struct WorkStep {
     pub work: WriterWork,
     pub update: Update,

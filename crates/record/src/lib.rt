@@ -1,6 +1,8 @@
 // Document 01's record: one value that the main loop keeps and every step changes. N1 added the place in the
 // circle, N2 the steps that an operation has made. Here are its types; `parts` makes records and reads and
 // replaces their parts; `idle` says which party has no work.
+#![tactic(auto)]
+
 pub mod idle;
 pub mod parts;
 

@@ -18,6 +18,7 @@ fn unheard() -> Station
 }
 
 // The record of m slots and k functions with which a panel begins: nothing stored, everyone idle.
+#[tactic(auto, unfolding(crate::specs::Parts::fresh_record))]
 pub fn fresh_record(m: u32, k: u32) -> Record
     ensures { result ≡ fresh_record m k }
 {
@@ -43,6 +44,7 @@ pub fn fresh_record(m: u32, k: u32) -> Record
 }
 
 // A reader's work; above 15 there is none.
+#[tactic(auto, unfolding(crate::specs::Parts::work_of))]
 pub fn work_of(panel: Record, reader: u32) -> ReaderWork
     ensures { result ≡ work_of panel reader }
 {
@@ -55,6 +57,7 @@ pub fn work_of(panel: Record, reader: u32) -> ReaderWork
 }
 
 // The record with a reader's work replaced; above 15 the record as it is.
+#[tactic(auto, unfolding(crate::specs::Parts::with_readers, crate::specs::Parts::with_work))]
 pub fn with_work(panel: Record, reader: u32, work: ReaderWork) -> Record
     ensures { result ≡ with_work panel reader work }
 {
@@ -66,6 +69,7 @@ pub fn with_work(panel: Record, reader: u32, work: ReaderWork) -> Record
 }
 
 // The place of a reader's work among the readers; 0 where there is no such reader.
+#[tactic(auto, unfolding(crate::specs::Parts::reader_place))]
 pub fn reader_place(reader: u32) -> usize
     ensures { result ≡ reader_place reader }
 {
@@ -76,6 +80,7 @@ pub fn reader_place(reader: u32) -> usize
 }
 
 // The record with the writer's work replaced.
+#[tactic(auto, unfolding(crate::specs::Parts::with_writer))]
 pub fn with_writer(panel: Record, work: WriterWork) -> Record
     ensures { result ≡ with_writer panel work }
 {
@@ -86,6 +91,7 @@ pub fn with_writer(panel: Record, work: WriterWork) -> Record
 }
 
 // The record with the reach replaced.
+#[tactic(auto, unfolding(crate::specs::Parts::with_reach))]
 pub fn with_reach(panel: Record, reach: u32) -> Record
     ensures { result ≡ with_reach panel reach }
 {
@@ -95,6 +101,7 @@ pub fn with_reach(panel: Record, reach: u32) -> Record
 }
 
 // The record with the place in the circle replaced.
+#[tactic(auto, unfolding(crate::specs::Parts::with_place))]
 pub fn with_place(panel: Record, place: u32) -> Record
     ensures { result ≡ with_place panel place }
 {
@@ -118,6 +125,7 @@ pub fn count_in(counts: &[u32; 64], index: u32) -> u32
 }
 
 // The same by the record.
+#[tactic(auto, unfolding(crate::specs::Parts::count_of))]
 pub fn count_of(panel: Record, index: u32) -> u32
     ensures { result ≡ count_of panel index }
 {
@@ -126,6 +134,7 @@ pub fn count_of(panel: Record, index: u32) -> u32
 }
 
 // The record with an index's count replaced; with an index outside 1 to 64 the record as it is.
+#[tactic(auto, unfolding(crate::specs::Parts::with_count, crate::specs::Parts::with_counts))]
 pub fn with_count(panel: Record, index: u32, count: u32) -> Record
     ensures { result ≡ with_count panel index count }
 {
@@ -141,6 +150,7 @@ pub fn with_count(panel: Record, index: u32, count: u32) -> Record
 }
 
 // The last command of a station, 1 to 32; another station sent none.
+#[tactic(auto, unfolding(crate::specs::Parts::station_of))]
 pub fn station_of(panel: Record, station: u32) -> Station
     ensures { result ≡ station_of panel station }
 {
@@ -155,6 +165,7 @@ pub fn station_of(panel: Record, station: u32) -> Station
 }
 
 // The record with a station's last command replaced; with a station outside 1 to 32 the record as it is.
+#[tactic(auto, unfolding(crate::specs::Parts::with_station, crate::specs::Parts::with_stations))]
 pub fn with_station(panel: Record, station: u32, last: Station) -> Record
     ensures { result ≡ with_station panel station last }
 {

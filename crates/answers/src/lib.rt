@@ -1,4 +1,6 @@
 // What the calls answer, an enum for each kind of call, and what they leave besides the slots.
+#![tactic(auto)]
+
 ghost use Rattle.std.specs.Prelude.{◌≡◌};
 ghost use Rattle.answers.specs.Answers.{step_answer, paper_progress, paper_result};
 

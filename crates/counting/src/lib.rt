@@ -1,5 +1,7 @@
 // Counts that stay in their range (`one_more`), and the steps that an operation underway has made, which are
 // counted in its work (`steps`).
+#![tactic(auto)]
+
 pub mod steps;
 
 ghost use Rattle.std.specs.Prelude.{◌≡◌};

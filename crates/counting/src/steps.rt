@@ -38,6 +38,7 @@ fn functions(k: u32) -> u32
 }
 
 // The count with one step more.
+#[tactic(auto, unfolding(crate::specs::Steps::step_counted))]
 pub fn step_counted(kind: OperationKind, k: u32, steps: u32) -> u32
     ensures { result ≡ step_counted kind k steps }
 {
@@ -45,6 +46,7 @@ pub fn step_counted(kind: OperationKind, k: u32, steps: u32) -> u32
     one_more(bound as u32, steps)
 }
 
+#[tactic(auto, unfolding(crate::specs::Steps::lookup_counted))]
 fn lookup_counted(lookup: Lookup, k: u32) -> Lookup
     ensures { result ≡ lookup_counted k lookup }
 {
@@ -57,6 +59,7 @@ fn lookup_counted(lookup: Lookup, k: u32) -> Lookup
 }
 
 // A reader's work with the step counted that it makes now.
+#[tactic(auto, unfolding(crate::specs::Steps::reader_counted))]
 pub fn reader_counted(work: ReaderWork, k: u32) -> ReaderWork
     ensures { result ≡ reader_counted k work }
 {
@@ -67,6 +70,7 @@ pub fn reader_counted(work: ReaderWork, k: u32) -> ReaderWork
     }
 }
 
+#[tactic(auto, unfolding(crate::specs::Steps::put_counted))]
 fn put_counted(put: Put, k: u32) -> Put
     ensures { result ≡ put_counted k put }
 {
@@ -79,6 +83,7 @@ fn put_counted(put: Put, k: u32) -> Put
     }
 }
 
+#[tactic(auto, unfolding(crate::specs::Steps::change_counted))]
 fn change_counted(change: Change, k: u32) -> Change
     ensures { result ≡ change_counted k change }
 {
@@ -92,6 +97,7 @@ fn change_counted(change: Change, k: u32) -> Change
     }
 }
 
+#[tactic(auto, unfolding(crate::specs::Steps::removal_counted))]
 fn removal_counted(removal: Removal, k: u32) -> Removal
     ensures { result ≡ removal_counted k removal }
 {
@@ -104,6 +110,7 @@ fn removal_counted(removal: Removal, k: u32) -> Removal
 }
 
 // The writer's work with the step counted that it makes now.
+#[tactic(auto, unfolding(crate::specs::Steps::writer_counted))]
 pub fn writer_counted(work: WriterWork, k: u32) -> WriterWork
     ensures { result ≡ writer_counted k work }
 {

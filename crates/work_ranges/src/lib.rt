@@ -1,4 +1,6 @@
 // The ranges of the work underway: a reader's and the writer's, one function for each group.
+#![tactic(auto)]
+
 ghost use Rattle.std.specs.Prelude.{◌≡◌};
 ghost use Rattle.work_ranges.specs.WorkRanges.{search_in_range, steps_in_range, lookup_in_range, work_in_range, put_stage_in_range, put_in_range, command_in_range, alteration_in_range, change_stage_in_range, change_in_range, removal_stage_in_range, removal_in_range, writer_in_range};
 
@@ -10,6 +12,7 @@ use record::{
 };
 use slot_words::points::is_valid_point;
 
+#[tactic(auto, unfolding(crate::specs::WorkRanges::search_in_range))]
 fn is_search_in_range(search: Search, k: u32) -> bool
     ensures { result ≡ search_in_range k search }
 {
@@ -19,12 +22,14 @@ fn is_search_in_range(search: Search, k: u32) -> bool
     }
 }
 
+#[tactic(auto, unfolding(crate::specs::WorkRanges::steps_in_range))]
 fn are_steps_in_range(steps: u32, kind: OperationKind, k: u32) -> bool
     ensures { result ≡ steps_in_range kind k steps }
 {
     steps as u64 <= step_bound(kind, k)
 }
 
+#[tactic(auto, unfolding(crate::specs::WorkRanges::lookup_in_range))]
 fn is_lookup_in_range(lookup: Lookup, k: u32) -> bool
     ensures { result ≡ lookup_in_range k lookup }
 {
@@ -38,6 +43,7 @@ fn is_lookup_in_range(lookup: Lookup, k: u32) -> bool
     )
 }
 
+#[tactic(auto, unfolding(crate::specs::WorkRanges::work_in_range))]
 pub fn is_work_in_range(work: ReaderWork, m: u32, k: u32) -> bool
     ensures { result ≡ work_in_range m k work }
 {
@@ -48,6 +54,7 @@ pub fn is_work_in_range(work: ReaderWork, m: u32, k: u32) -> bool
     }
 }
 
+#[tactic(auto, unfolding(crate::specs::WorkRanges::put_stage_in_range))]
 fn is_put_stage_in_range(stage: PutStage, k: u32) -> bool
     ensures { result ≡ put_stage_in_range k stage }
 {
@@ -59,6 +66,7 @@ fn is_put_stage_in_range(stage: PutStage, k: u32) -> bool
     }
 }
 
+#[tactic(auto, unfolding(crate::specs::WorkRanges::put_in_range))]
 fn is_put_in_range(put: Put, k: u32) -> bool
     ensures { result ≡ put_in_range k put }
 {
@@ -72,6 +80,7 @@ fn is_put_in_range(put: Put, k: u32) -> bool
     )
 }
 
+#[tactic(auto, unfolding(crate::specs::WorkRanges::command_in_range))]
 fn is_command_in_range(command: Command) -> bool
     ensures { result ≡ command_in_range command }
 {
@@ -81,6 +90,7 @@ fn is_command_in_range(command: Command) -> bool
     )
 }
 
+#[tactic(auto, unfolding(crate::specs::WorkRanges::alteration_in_range))]
 fn is_alteration_in_range(alteration: Alteration) -> bool
     ensures { result ≡ alteration_in_range alteration }
 {
@@ -90,6 +100,7 @@ fn is_alteration_in_range(alteration: Alteration) -> bool
     }
 }
 
+#[tactic(auto, unfolding(crate::specs::WorkRanges::change_stage_in_range))]
 fn is_change_stage_in_range(stage: ChangeStage, k: u32) -> bool
     ensures { result ≡ change_stage_in_range k stage }
 {
@@ -99,6 +110,7 @@ fn is_change_stage_in_range(stage: ChangeStage, k: u32) -> bool
     }
 }
 
+#[tactic(auto, unfolding(crate::specs::WorkRanges::change_in_range))]
 fn is_change_in_range(change: Change, k: u32) -> bool
     ensures { result ≡ change_in_range k change }
 {
@@ -116,6 +128,7 @@ fn is_change_in_range(change: Change, k: u32) -> bool
     )
 }
 
+#[tactic(auto, unfolding(crate::specs::WorkRanges::removal_stage_in_range))]
 fn is_removal_stage_in_range(stage: RemovalStage, k: u32) -> bool
     ensures { result ≡ removal_stage_in_range k stage }
 {
@@ -126,6 +139,7 @@ fn is_removal_stage_in_range(stage: RemovalStage, k: u32) -> bool
     }
 }
 
+#[tactic(auto, unfolding(crate::specs::WorkRanges::removal_in_range))]
 fn is_removal_in_range(removal: Removal, k: u32) -> bool
     ensures { result ≡ removal_in_range k removal }
 {
@@ -139,6 +153,7 @@ fn is_removal_in_range(removal: Removal, k: u32) -> bool
     )
 }
 
+#[tactic(auto, unfolding(crate::specs::WorkRanges::writer_in_range))]
 pub fn is_writer_in_range(work: WriterWork, k: u32) -> bool
     ensures { result ≡ writer_in_range k work }
 {

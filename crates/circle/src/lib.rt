@@ -1,5 +1,7 @@
 // The circle of seventeen parties: 0 is the writer, n + 1 reader n, and 17 stands for nobody. Which readers
 // have work is told by marks, a number of sixteen binary digits, reader 15's the lowest: 1 for work.
+#![tactic(auto)]
+
 ghost use Rattle.std.specs.Prelude.{◌≡◌};
 ghost use Rattle.circle.specs.Circle.{party_after};
 ghost use Rattle.circle.specs.Marks.{marked_with, marked_behind, all_marked, due_by, place_after};
@@ -10,6 +12,7 @@ use record::{Reader, Writer};
 use std::num::wrapping_add_u32;
 
 // One past a party, from 16 to 0.
+#[tactic(auto, unfolding(crate::specs::Circle::party_after))]
 pub fn party_after(party: u32) -> u32
     ensures { result ≡ party_after party }
 {
@@ -17,6 +20,7 @@ pub fn party_after(party: u32) -> u32
 }
 
 // The marks with one more reader's behind them.
+#[tactic(auto, unfolding(crate::specs::Marks::marked_with))]
 pub fn reader_marked(marks: u32, reader: Reader) -> u32
     ensures { result ≡ marked_with marks reader }
 {
@@ -41,6 +45,7 @@ pub fn readers_marked(readers: [Reader; 16]) -> u32
 }
 
 // The marks with the writer's in front.
+#[tactic(auto, unfolding(crate::specs::Marks::all_marked))]
 fn all_marked(writer: Writer, marks: u32) -> u32
     ensures { result ≡ all_marked writer.work marks }
 {
@@ -68,6 +73,7 @@ pub fn party_due(fits: bool, place: u32, writer: Writer, marks: u32) -> u32
 }
 
 // The place after a turn that was due to this party.
+#[tactic(auto, unfolding(crate::specs::Marks::place_after))]
 pub fn place_after(place: u32, due: u32) -> u32
     ensures { result ≡ place_after place due }
 {

@@ -11,6 +11,7 @@ fn byte_at(bytes: &[u8], at: usize) -> u8
 }
 
 // The number of `width` bytes at a place.
+#[tactic(auto, unfolding(crate::specs::FieldMap::big_endian, crate::specs::Layouts::number_at))]
 pub(crate) fn number_at(bytes: &[u8], at: u32, width: u32) -> u32
     requires { width ≤ 4 }
     ensures { result ≡ number_at bytes.now at width }
@@ -35,6 +36,7 @@ pub(crate) fn put_byte(out: &mut [u8], at: usize, byte: u8)
 }
 
 // Stores the last `width` bytes of a number at a place.
+#[tactic(auto, unfolding(crate::specs::FieldMap::bytes_of, crate::specs::Layouts::put))]
 pub(crate) fn put_number(out: &mut [u8], at: u32, width: u32, number: u32)
     ensures { out.new ≡ put at width number out.old }
 {

@@ -11,6 +11,7 @@ use crate::{Fields, ReadAnswer};
 use refusal::{Judged, Refusal};
 
 // The frame that a byte string is, or why it is none: 8 if empty, 9, 8, then its fields in bit order.
+#[tactic(auto, unfolding(crate::specs::Frames::handed, crate::specs::Frames::read_frame, crate::specs::Frames::read_refusal, refusal::specs::Judging::refuse_if))]
 pub fn read(bytes: &[u8]) -> ReadAnswer
     ensures { paper_read result ≡ read_frame bytes.now }
 {
@@ -24,6 +25,7 @@ pub fn read(bytes: &[u8]) -> ReadAnswer
     }
 }
 
+#[tactic(auto, unfolding(crate::specs::Frames::handed, crate::specs::Layouts::reading_by, refusal::specs::Judging::refuse_if))]
 fn read_by(bytes: &[u8], l: Layout) -> ReadAnswer
     ensures { paper_read result ≡ reading_by bytes.now l }
 {
@@ -38,6 +40,7 @@ fn read_by(bytes: &[u8], l: Layout) -> ReadAnswer
     }
 }
 
+#[tactic(auto, unfolding(crate::specs::Layouts::fields_at))]
 fn fields_at(bytes: &[u8], l: Layout) -> Fields
     ensures { result ≡ fields_at bytes.now l }
 {

@@ -27,6 +27,7 @@ pub fn write(out: &mut [u8], map: u32, f: Fields) -> WriteAnswer
     WriteAnswer::Written(l.length)
 }
 
+#[tactic(auto, unfolding(crate::specs::Layouts::put, crate::specs::Layouts::put_frame))]
 fn put_frame(out: &mut [u8], l: Layout, f: Fields)
     ensures { out.new ≡ put_frame l f out.old }
 {

@@ -17,6 +17,7 @@ fn is_out_of_range(at: u32, low: u32, number: u32, high: u32) -> bool
     both_hold(at != 0, is_outside(low, number, high))
 }
 
+#[tactic(auto, unfolding(crate::specs::Frames::judged, refusal::specs::Judging::refuse_if))]
 pub(crate) fn judge(l: Layout, f: Fields) -> Judged
     ensures { paper_judged result ≡ judged (λ (i : ℕ). present (places_of l i)) f }
 {

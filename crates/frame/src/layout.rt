@@ -23,6 +23,7 @@ pub(crate) enum MapByte {
     NotAllowed,
 }
 
+#[tactic(auto, unfolding(crate::specs::FieldMap::has_bit, crate::specs::Layouts::laid, crate::specs::Layouts::layout_of, crate::specs::FieldMap::start))]
 pub(crate) fn layout_of(map: u32) -> MapByte
     ensures { result ≡ layout_of map }
 {

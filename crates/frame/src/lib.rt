@@ -1,5 +1,7 @@
 // Document 01's frames: a map byte, then the fields whose bits it sets. `read` and `write` are the
 // frame reader and the frame writer; `c_interface` has them for firmware in C.
+#![tactic(auto)]
+
 mod big_endian;
 pub mod c_interface;
 mod frame_reader;

@@ -20,6 +20,7 @@ pub struct PutLine {
     pub value: u32,
 }
 
+#[tactic(auto, unfolding(crate::specs::LineState::command_of, crate::specs::LineState::command_with))]
 pub fn command_of(line: Line) -> CommandLine
     ensures { result ≡ command_of line }
 {
@@ -33,6 +34,7 @@ pub fn command_of(line: Line) -> CommandLine
     }
 }
 
+#[tactic(auto, unfolding(crate::specs::LineState::point_command))]
 fn point_command(letter: Field, point: Field) -> CommandLine
     ensures { result ≡ point_command letter point }
 {
@@ -45,6 +47,7 @@ fn point_command(letter: Field, point: Field) -> CommandLine
     CommandLine::Unreadable
 }
 
+#[tactic(auto, unfolding(crate::specs::LineState::put_command))]
 fn put_command(letter: Field, point: Field, value: Field) -> CommandLine
     ensures { result ≡ put_command letter point value }
 {
@@ -54,6 +57,7 @@ fn put_command(letter: Field, point: Field, value: Field) -> CommandLine
     CommandLine::Unreadable
 }
 
+#[tactic(auto, unfolding(crate::specs::Grammar::lookup_line))]
 fn lookup_line(point: Reading) -> CommandLine
     ensures { result ≡ lookup_line point }
 {
@@ -63,6 +67,7 @@ fn lookup_line(point: Reading) -> CommandLine
     }
 }
 
+#[tactic(auto, unfolding(crate::specs::Grammar::removal_line))]
 fn removal_line(point: Reading) -> CommandLine
     ensures { result ≡ removal_line point }
 {
@@ -72,6 +77,7 @@ fn removal_line(point: Reading) -> CommandLine
     }
 }
 
+#[tactic(auto, unfolding(crate::specs::Grammar::put_line))]
 fn put_line(point: Reading, value: Reading) -> CommandLine
     ensures { result ≡ put_line point value }
 {

@@ -29,6 +29,7 @@ pub(crate) enum Reading {
 }
 
 // The field with one byte more.
+#[tactic(auto, unfolding(crate::specs::LineState::field_more))]
 pub(crate) fn field_more(field: Field, byte: u8) -> Field
     ensures { result ≡ field_more field byte }
 {
@@ -40,6 +41,7 @@ pub(crate) fn field_more(field: Field, byte: u8) -> Field
     }
 }
 
+#[tactic(auto, unfolding(crate::specs::LineState::first_byte))]
 fn first_byte(byte: u8) -> Field
     ensures { result ≡ first_byte byte }
 {
@@ -49,6 +51,7 @@ fn first_byte(byte: u8) -> Field
     Field::Letter(byte)
 }
 
+#[tactic(auto, unfolding(crate::specs::Grammar::digit, crate::specs::LineState::digits_more))]
 fn digits_more(digits: Digits, byte: u8) -> Field
     ensures { result ≡ digits_more digits.count digits.value byte }
 {
@@ -63,6 +66,7 @@ fn digits_more(digits: Digits, byte: u8) -> Field
 }
 
 // An empty field with so many digits more, which say this.
+#[tactic(auto, unfolding(crate::specs::LineState::digits_field))]
 pub(crate) fn digits_field(count: u32, value: u64) -> Field
     ensures { result ≡ digits_field count value }
 {
@@ -73,6 +77,7 @@ pub(crate) fn digits_field(count: u32, value: u64) -> Field
 }
 
 // Digits stay a number as long as they fit 32 bits: more of them never say less.
+#[tactic(auto, unfolding(crate::specs::LineState::kept))]
 fn kept(count: u32, value: u64) -> Field
     ensures { result ≡ kept count value }
 {
@@ -85,6 +90,7 @@ fn kept(count: u32, value: u64) -> Field
     Field::Other
 }
 
+#[tactic(auto, unfolding(crate::specs::Grammar::digit))]
 pub(crate) fn is_digit(byte: u8) -> bool
     ensures { result ≡ digit byte }
 {
@@ -92,6 +98,7 @@ pub(crate) fn is_digit(byte: u8) -> bool
 }
 
 // The number that the whole field is.
+#[tactic(auto, unfolding(crate::specs::LineState::number_of))]
 pub(crate) fn number_of(field: Field) -> Reading
     ensures { result ≡ number_of field }
 {
@@ -104,6 +111,7 @@ pub(crate) fn number_of(field: Field) -> Reading
 }
 
 // The whole field is this letter.
+#[tactic(auto, unfolding(crate::specs::LineState::is_letter_field))]
 pub(crate) fn is_letter(letter: u8, field: Field) -> bool
     ensures { result ≡ is_letter_field letter field }
 {

@@ -1,5 +1,7 @@
 // A line of the bench program's input, read out of a buffer into a state of fixed size, since a line may
 // have any length. The line end is no byte of it.
+#![tactic(auto)]
+
 mod commands;
 mod field;
 mod part;

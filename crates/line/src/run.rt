@@ -14,6 +14,7 @@ pub(crate) struct Run {
 
 // An empty field goes on with the digits from `from` on, ten at most: what so many say cannot wrap, and
 // is judged once, behind the loop.
+#[tactic(auto, unfolding(crate::specs::Grammar::digit))]
 pub(crate) fn digits_run(bytes: &[u8], from: usize, to: usize) -> Run
     requires { (from ≤ to) × (to ≤ length bytes.now) }
     ensures { result ≡ run_of from (slice from to bytes.now) }

@@ -18,6 +18,7 @@ pub struct Sizes {
     pub k: u32,
 }
 
+#[tactic(auto, unfolding(crate::specs::LineState::sizes_of, crate::specs::LineState::sizes_with))]
 pub fn sizes_of(line: Line) -> SizesLine
     ensures { result ≡ sizes_of line }
 {
@@ -31,6 +32,7 @@ pub fn sizes_of(line: Line) -> SizesLine
     }
 }
 
+#[tactic(auto, unfolding(crate::specs::Grammar::sizes_line))]
 fn sizes_line(m: Reading, k: Reading) -> SizesLine
     ensures { result ≡ sizes_line m k }
 {

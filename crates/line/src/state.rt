@@ -20,6 +20,7 @@ pub enum Fields {
 }
 
 // A line of which no byte has been given.
+#[tactic(auto, unfolding(crate::specs::LineState::line_begin))]
 pub fn begin() -> Line
     ensures { result ≡ line_begin }
 {
@@ -30,6 +31,7 @@ pub fn begin() -> Line
 }
 
 // The line with one byte more. Each space ends a field, so that two in a row leave an empty one.
+#[tactic(auto, unfolding(crate::specs::LineState::line_more, crate::specs::LineState::next_field, crate::specs::LineState::same_field))]
 pub fn more(line: Line, byte: u8) -> Line
     ensures { result ≡ line_more line byte }
 {
@@ -48,6 +50,7 @@ pub fn more(line: Line, byte: u8) -> Line
 }
 
 // The ended fields with one more.
+#[tactic(auto, unfolding(crate::specs::LineState::with_ended))]
 fn with_ended(ended: Fields, last: Field) -> Fields
     ensures { result ≡ with_ended ended last }
 {

@@ -1,4 +1,6 @@
 // The ranges of the record's fields, one function for each group, joined in `is_in_range`.
+#![tactic(auto)]
+
 ghost use Rattle.std.specs.Prelude.{◌≡◌};
 ghost use Rattle.record_ranges.specs.Ranges.{reader_in_range, readers_in_range, station_in_range, stations_in_range, counts_in_range, sizes_in_range, parts_in_range, in_range};
 ghost use Rattle.conditions.specs.Conditions.{both};
@@ -8,6 +10,7 @@ use record::{Reader, Record, Station, Writer};
 use slot_words::points::is_valid_point;
 use work_ranges::{is_work_in_range, is_writer_in_range};
 
+#[tactic(auto, unfolding(crate::specs::Ranges::reader_in_range))]
 fn is_reader_in_range(reader: Reader, m: u32, k: u32) -> bool
     ensures { result ≡ reader_in_range m k reader }
 {
@@ -15,6 +18,7 @@ fn is_reader_in_range(reader: Reader, m: u32, k: u32) -> bool
     is_work_in_range(work, m, k)
 }
 
+#[tactic(auto, unfolding(crate::specs::Ranges::readers_in_range))]
 fn are_readers_in_range(readers: [Reader; 16], m: u32, k: u32) -> bool
     ensures { result ≡ readers_in_range m k readers }
 {
@@ -28,6 +32,7 @@ fn are_readers_in_range(readers: [Reader; 16], m: u32, k: u32) -> bool
 }
 
 // A station that sent no command is told first: most have sent none.
+#[tactic(auto, unfolding(conditions::specs::Conditions::either, crate::specs::Ranges::station_in_range))]
 fn is_station_in_range(station: Station) -> bool
     ensures { result ≡ station_in_range station }
 {
@@ -40,6 +45,7 @@ fn is_station_in_range(station: Station) -> bool
     )
 }
 
+#[tactic(auto, unfolding(crate::specs::Ranges::stations_in_range))]
 fn are_stations_in_range(stations: [Station; 32]) -> bool
     ensures { result ≡ stations_in_range stations }
 {
@@ -53,6 +59,7 @@ fn are_stations_in_range(stations: [Station; 32]) -> bool
 }
 
 // Only the counts of indices 1 to k are fields.
+#[tactic(auto, unfolding(crate::specs::Ranges::counts_in_range))]
 pub fn are_counts_in_range(counts: &[u32; 64], m: u32, k: u32) -> bool
     ensures { result ≡ counts_in_range m k counts.now }
 {
@@ -69,6 +76,7 @@ pub fn are_counts_in_range(counts: &[u32; 64], m: u32, k: u32) -> bool
     true
 }
 
+#[tactic(auto, unfolding(crate::specs::Ranges::sizes_in_range))]
 pub fn are_sizes_in_range(m: u32, k: u32, lent: usize) -> bool
     ensures { result ≡ sizes_in_range m k lent }
 {
@@ -81,6 +89,7 @@ pub fn are_sizes_in_range(m: u32, k: u32, lent: usize) -> bool
 // Whether what was tested before and this reader are in range: an iteration of a loop over readers behind a
 // reference, which no function by value has. It returns early where both conditions could be joined, since then
 // the compiler unrolls the loop.
+#[tactic(auto, unfolding(conditions::specs::Conditions::both))]
 pub fn reader_joined(before: bool, reader: Reader, m: u32, k: u32) -> bool
     ensures { result ≡ both before (reader_in_range m k reader) }
 {
@@ -101,6 +110,7 @@ pub fn station_joined(before: bool, station: Station) -> bool
 }
 
 // Whether every field is in range, by whether those of the three arrays are.
+#[tactic(auto, unfolding(crate::specs::Ranges::parts_in_range))]
 pub fn are_parts_in_range(
     lent: usize,
     m: u32,
@@ -131,6 +141,7 @@ pub fn are_parts_in_range(
 }
 
 // Whether every field is in range, for a number of slots lent; where not, a call gets refusal 1.
+#[tactic(auto, unfolding(crate::specs::Ranges::in_range))]
 pub fn is_in_range(panel: Record, lent: usize) -> bool
     ensures { result ≡ in_range lent panel }
 {

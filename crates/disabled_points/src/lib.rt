@@ -1,4 +1,6 @@
 // What the panel says of disabled points, taken from the slots as they are.
+#![tactic(auto)]
+
 ghost use Rattle.std.specs.Prelude.{◌≡◌, length};
 ghost use Rattle.answers.specs.Answers.{paper_total, paper_display};
 ghost use Rattle.disabled_points.specs.Disabled.{holds_disabled, disabled_points, lowest, lower_of, disabled_total, MayDisplay};
@@ -12,6 +14,7 @@ use slot_words::points::{is_disabled, is_valid_point};
 use slot_words::word::{point_of, value_of};
 
 // The slot holds a valid point that is disabled.
+#[tactic(auto, unfolding(crate::specs::Disabled::holds_disabled))]
 fn holds_disabled(word: u64) -> bool
     ensures { result ≡ holds_disabled word }
 {
@@ -33,6 +36,7 @@ fn count_disabled(slots: &[u64]) -> usize
 }
 
 // The lowest disabled address; 2147483647, which is no address, if there is none.
+#[tactic(auto, unfolding(crate::specs::Disabled::lowest))]
 fn lowest_disabled(slots: &[u64]) -> u32
     ensures { result ≡ lowest (disabled_points slots.now) }
 {
@@ -46,6 +50,7 @@ fn lowest_disabled(slots: &[u64]) -> u32
 }
 
 // The word's point, if it is disabled and lower than the least so far.
+#[tactic(auto, unfolding(crate::specs::Disabled::lower_of))]
 fn lower(least: u32, word: u64) -> u32
     ensures { result ≡ lower_of least word }
 {
@@ -58,6 +63,7 @@ fn lower(least: u32, word: u64) -> u32
 }
 
 // How many slots hold a valid point that is disabled.
+#[tactic(auto, unfolding(crate::specs::Disabled::disabled_total))]
 pub fn disabled_total(panel: Record, slots: &[u64]) -> TotalAnswer
     ensures { paper_total result ≡ disabled_total panel slots.now }
 {

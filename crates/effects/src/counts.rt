@@ -18,6 +18,7 @@ pub fn one_less(count: u32) -> u32
 }
 
 // One point more uses the index.
+#[tactic(auto, unfolding(crate::specs::Counts::counted))]
 pub(crate) fn with_counted(panel: Record, index: u32) -> Record
     ensures { result ≡ counted panel index }
 {
@@ -25,6 +26,7 @@ pub(crate) fn with_counted(panel: Record, index: u32) -> Record
 }
 
 // One point less uses the index.
+#[tactic(auto, unfolding(crate::specs::Counts::uncounted))]
 pub(crate) fn with_uncounted(panel: Record, index: u32) -> Record
     ensures { result ≡ uncounted panel index }
 {
@@ -32,6 +34,7 @@ pub(crate) fn with_uncounted(panel: Record, index: u32) -> Record
 }
 
 // The largest index of 1 to k that is counted, or 0.
+#[tactic(auto, unfolding(crate::specs::Counts::largest_counted, crate::specs::Counts::largest_up_to))]
 pub fn largest_counted(k: u32, counts: &[u32; 64]) -> u32
     ensures { result ≡ largest_counted k counts.now }
 {

@@ -21,6 +21,7 @@ pub struct Store {
 }
 
 // The access that stores a word in a point's position of an index.
+#[tactic(auto, unfolding(crate::specs::Memory::store_word))]
 pub fn store_word(m: u32, point: u32, index: u32, word: u64) -> WriterAccess
     ensures { result ≡ store_word m point index word }
 {
@@ -32,6 +33,7 @@ pub fn store_word(m: u32, point: u32, index: u32, word: u64) -> WriterAccess
 }
 
 // The slot that an access stores; 0 where it stores none.
+#[tactic(auto, unfolding(crate::specs::Memory::slot_stored))]
 pub fn slot_stored(access: WriterAccess) -> u32
     ensures { result ≡ slot_stored access }
 {
@@ -43,6 +45,7 @@ pub fn slot_stored(access: WriterAccess) -> u32
 }
 
 // The word read; 0 of an access that stores.
+#[tactic(auto, unfolding(crate::specs::Memory::access_read, crate::specs::Memory::slots_after))]
 pub fn perform(slots: &mut [u64], access: WriterAccess) -> u64
     ensures { (result ≡ access_read slots.old access) × (slots.new ≡ slots_after slots.old access) }
 {

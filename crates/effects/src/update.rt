@@ -36,6 +36,7 @@ pub struct LastCommand {
     pub last: Station,
 }
 
+#[tactic(auto, unfolding(crate::specs::Effects::updated))]
 pub fn with_update(panel: Record, update: Update) -> Record
     ensures { result ≡ updated panel update }
 {
@@ -65,6 +66,7 @@ pub fn reach_after(reach: u32, update: Update) -> u32
 }
 
 // The place of the count that an update changes; 0 where it changes none.
+#[tactic(auto, unfolding(crate::specs::Effects::count_place))]
 pub fn count_place(update: Update) -> usize
     ensures { result ≡ count_place update }
 {
@@ -78,6 +80,7 @@ pub fn count_place(update: Update) -> usize
 }
 
 // The count at that place after the update.
+#[tactic(auto, unfolding(crate::specs::Effects::count_after))]
 pub fn count_after(m: u32, update: Update, count: u32) -> u32
     ensures { result ≡ count_after m update count }
 {
@@ -104,6 +107,7 @@ pub fn station_after(update: Update, station: Station) -> Station
 }
 
 // The operation goes on with this work.
+#[tactic(auto, unfolding(crate::specs::Effects::going_on))]
 pub fn underway(work: WriterWork) -> Effect
     ensures { paper_effect result ≡ going_on work }
 {
@@ -115,6 +119,7 @@ pub fn underway(work: WriterWork) -> Effect
 }
 
 // The operation ends, and the writer is idle.
+#[tactic(auto, unfolding(crate::specs::Effects::ends))]
 pub fn ended(update: Update, ending: Ending) -> Effect
     ensures { paper_effect result ≡ ends update (paper_ending ending) }
 {

@@ -1,4 +1,6 @@
 // A fresh panel: the slots emptied, and the record with which it begins.
+#![tactic(auto)]
+
 ghost use Rattle.std.specs.Prelude.{◌≡◌, length, replicate};
 ghost use Rattle.answers.specs.Answers.{paper_fresh, outcome};
 ghost use Rattle.fresh_panel.specs.FreshPanel.{make_fresh};
@@ -21,6 +23,7 @@ fn clear(slots: &mut [u64])
 
 // Empties the slots and gives the record of a panel of m slots and k functions. Refused, it leaves the
 // slots and gives the record of zeros, with which every other call is refused too.
+#[tactic(auto, unfolding(crate::specs::FreshPanel::make_fresh))]
 pub fn fresh(slots: &mut [u64], m: u32, k: u32) -> FreshOutcome
     ensures { outcome result.panel slots.new (paper_fresh result.answer) ≡ make_fresh m k slots.old }
 {

@@ -8,6 +8,7 @@ use hash::position;
 use slot_words::word::point_of;
 
 // The lowest of 1 to k whose position is the place, or 0.
+#[tactic(auto, unfolding(plain_list::specs::PlainList::index_of))]
 pub(crate) fn index_of(m: u32, k: u32, point: u32, place: u32) -> u32
     ensures { result ≡ index_of m k point place }
 {
@@ -39,6 +40,7 @@ pub(crate) fn first_free(places: &[u32], count: usize, m: u32, k: u32, point: u3
 }
 
 // The largest index of a row, or 0.
+#[tactic(auto, unfolding(plain_list::specs::PlainList::largest_index, crate::specs::Rows::rows_of))]
 pub(crate) fn largest_index(words: &[u64], places: &[u32], count: usize, m: u32, k: u32) -> u32
     requires { Room words.now places.now count }
     ensures { result ≡ largest_index m k (rows_of words.now places.now count) }

@@ -1,6 +1,8 @@
 // Document 01's plain list as code, for a program that keeps it beside the slots and compares the two.
 // The rows lie in two lent slices: a row's point and value in a word of `words`, its place at the same
 // index of `places`. A new row goes behind the others, so that the list reads from the last row down.
+#![tactic(auto)]
+
 ghost use Rattle.plain_rows.specs.Rows.{Room};
 ghost use Rattle.plain_rows.specs.Fed.{operation_of, fed_rows, Feeds};
 
@@ -31,6 +33,7 @@ pub struct Fed {
 // Feeds an operation to the list of `count` rows, for a table of m slots and k functions. If a slice is
 // too short for the rows before or after, nothing is altered and the answer is refusal 1. A table's own
 // list never has more than m rows, so slices of m entries are long enough (proofs/RoomLaws.antt).
+#[tactic(auto, unfolding(conditions::specs::Conditions::both, crate::specs::Fed::fed_rows))]
 pub fn feed(
     words: &mut [u64],
     places: &mut [u32],
@@ -48,6 +51,7 @@ pub fn feed(
 }
 
 // The same for slices that hold the rows.
+#[tactic(auto, unfolding(crate::specs::Fed::fed_rows, plain_list::specs::PlainList::feed))]
 fn feed_rows(
     words: &mut [u64],
     places: &mut [u32],

@@ -58,6 +58,7 @@ fn placed(count: usize, m: u32, k: u32, point: u32, place: u32) -> Fed
     }
 }
 
+#[tactic(auto, unfolding(plain_list::specs::PlainList::put_entry, plain_list::specs::PlainList::put_row))]
 pub(crate) fn put_row(
     words: &mut [u64],
     places: &mut [u32],
@@ -83,6 +84,7 @@ pub(crate) fn put_row(
 }
 
 // Adds the row, at the point's position of that index; index 0 means that no position is free.
+#[tactic(auto, unfolding(plain_list::specs::PlainList::add_row))]
 fn add_row(
     words: &mut [u64],
     places: &mut [u32],
@@ -111,6 +113,7 @@ fn add_row(
     placed(count + 1, m, k, point, place)
 }
 
+#[tactic(auto, unfolding(plain_list::specs::PlainList::change_entry, plain_list::specs::PlainList::change_row))]
 pub(crate) fn change_row(
     words: &mut [u64],
     places: &mut [u32],
@@ -135,6 +138,7 @@ pub(crate) fn change_row(
     }
 }
 
+#[tactic(auto, unfolding(plain_list::specs::PlainList::remove_entry, plain_list::specs::PlainList::remove_row))]
 pub(crate) fn remove_row(
     words: &mut [u64],
     places: &mut [u32],

@@ -15,6 +15,7 @@ pub(crate) enum Entry {
 }
 
 // Both slices hold that many rows.
+#[tactic(auto, unfolding(crate::specs::Rows::has_room))]
 pub(crate) fn has_room(words: &[u64], places: &[u32], count: usize) -> bool
     ensures { result ≡ has_room words.now places.now count }
 {
@@ -22,6 +23,7 @@ pub(crate) fn has_room(words: &[u64], places: &[u32], count: usize) -> bool
 }
 
 // The point's row. If the slices have several, the newest, which comes first in the list.
+#[tactic(auto, unfolding(plain_list::specs::PlainList::entry_of, crate::specs::Rows::rows_of))]
 pub(crate) fn entry_of(words: &[u64], places: &[u32], count: usize, point: u32) -> Entry
     requires { Room words.now places.now count }
     ensures { entry_read result ≡ entry_of point (rows_of words.now places.now count) }
@@ -41,6 +43,7 @@ pub(crate) fn entry_of(words: &[u64], places: &[u32], count: usize, point: u32) 
 }
 
 // Whether the place is some row's.
+#[tactic(auto, unfolding(plain_list::specs::PlainList::is_place, crate::specs::Rows::rows_of))]
 pub(crate) fn is_place(places: &[u32], count: usize, place: u32) -> bool
     requires { count ≤ length places.now }
     ensures { (words : List ℕ) → result ≡ is_place place (rows_of words places.now count) }

@@ -13,6 +13,7 @@ pub enum ReadAccess {
 }
 
 // The word read; 0 where no slot is.
+#[tactic(auto, unfolding(crate::specs::Access::word_read))]
 pub fn word_read(slots: &[u64], access: ReadAccess) -> u64
     ensures { result ≡ word_read slots.now access }
 {

@@ -1,4 +1,6 @@
 // A search for a point, by lookups and by the writer's operations: read the reach r, then positions 1 to r.
+#![tactic(auto)]
+
 pub mod access;
 
 ghost use Rattle.std.specs.Prelude.{◌≡◌};
@@ -23,6 +25,7 @@ pub enum SearchAnswer {
 }
 
 // Part 1: the access that comes next.
+#[tactic(auto, unfolding(crate::specs::Search::search_access))]
 pub fn search_access(search: Search, point: u32, m: u32) -> ReadAccess
     ensures { result ≡ search_access m point search }
 {
@@ -33,6 +36,7 @@ pub fn search_access(search: Search, point: u32, m: u32) -> ReadAccess
 }
 
 // Part 3: what follows from the reach, in the first step, and from the word read, in the others.
+#[tactic(auto, unfolding(crate::specs::Search::search_advance))]
 pub fn search_advance(search: Search, point: u32, reach: u32, word: u64) -> Searched
     ensures { result ≡ search_advance reach point search word }
 {
@@ -43,6 +47,7 @@ pub fn search_advance(search: Search, point: u32, reach: u32, word: u64) -> Sear
 }
 
 // The reach has been read. With reach 0 there is nothing to probe.
+#[tactic(auto, unfolding(crate::specs::Search::first_probe))]
 fn first_probe(reach: u32) -> Searched
     ensures { result ≡ first_probe reach }
 {
@@ -57,6 +62,7 @@ fn first_probe(reach: u32) -> Searched
 
 // A position has been read. A removal may have left it empty, so the search goes on to the reach that
 // it remembers.
+#[tactic(auto, unfolding(crate::specs::Search::holds_point, crate::specs::Search::next_probe, crate::specs::Search::probe_advance))]
 fn probe_advance(probe: Probe, point: u32, word: u64) -> Searched
     ensures { result ≡ probe_advance point probe word }
 {

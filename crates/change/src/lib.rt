@@ -1,5 +1,7 @@
 // A change's step: search; found, store (value AND keep) XOR flip. A command's change stores the command
 // and its answer in the step in which it ends.
+#![tactic(auto)]
+
 ghost use Rattle.std.specs.Prelude.{◌≡◌};
 ghost use Rattle.effects.specs.Effects.{paper_effect};
 ghost use Rattle.change.specs.Change.{action_masks, masks_of, new_value, change_access, command_ends, commanding_station, change_at, change_searched, change_answered, change_stores, change_advance};
@@ -12,6 +14,7 @@ use search::{SearchAnswer, Searched, search_access, search_advance};
 use slot_words::word::word_of;
 
 // Action 0 clears bit 0, 1 sets it, 2 toggles it.
+#[tactic(auto, unfolding(crate::specs::Change::action_masks))]
 pub fn action_masks(action: u32) -> Masks
     ensures { result ≡ action_masks action }
 {
@@ -31,6 +34,7 @@ pub fn action_masks(action: u32) -> Masks
     }
 }
 
+#[tactic(auto, unfolding(crate::specs::Change::masks_of))]
 fn masks_of(alteration: Alteration) -> Masks
     ensures { result ≡ masks_of alteration }
 {
@@ -40,6 +44,7 @@ fn masks_of(alteration: Alteration) -> Masks
     }
 }
 
+#[tactic(auto, unfolding(crate::specs::Change::new_value))]
 fn new_value(alteration: Alteration, value: u32) -> u32
     ensures { result ≡ new_value alteration value }
 {
@@ -48,6 +53,7 @@ fn new_value(alteration: Alteration, value: u32) -> u32
 }
 
 // Part 1: the access that comes next.
+#[tactic(auto, unfolding(crate::specs::Change::change_access, crate::specs::Change::change_stage_access))]
 pub fn change_access(change: Change, m: u32) -> WriterAccess
     ensures { result ≡ change_access m change }
 {
@@ -64,6 +70,7 @@ pub fn change_access(change: Change, m: u32) -> WriterAccess
 }
 
 // Part 3: what follows from the reach, or from the word read or stored.
+#[tactic(auto, unfolding(crate::specs::Change::change_advance, crate::specs::Change::change_stage_advance))]
 pub fn change_advance(change: Change, reach: u32, word: u64) -> Effect
     ensures { paper_effect result ≡ change_advance reach change word }
 {
@@ -77,6 +84,7 @@ pub fn change_advance(change: Change, reach: u32, word: u64) -> Effect
 }
 
 // The change goes on at this stage.
+#[tactic(auto, unfolding(crate::specs::Change::change_at))]
 fn change_at(change: Change, stage: ChangeStage) -> Effect
     ensures { paper_effect result ≡ change_at change stage }
 {
@@ -89,6 +97,7 @@ fn change_at(change: Change, stage: ChangeStage) -> Effect
     }))
 }
 
+#[tactic(auto, unfolding(crate::specs::Change::change_searched))]
 fn change_searched(change: Change, searched: Searched) -> Effect
     ensures { paper_effect result ≡ change_searched change searched }
 {
@@ -99,6 +108,7 @@ fn change_searched(change: Change, searched: Searched) -> Effect
 }
 
 // What the search's answer leads to.
+#[tactic(auto, unfolding(crate::specs::Change::change_answered))]
 fn change_answered(change: Change, answer: SearchAnswer) -> Effect
     ensures { paper_effect result ≡ change_answered change answer }
 {
@@ -112,6 +122,7 @@ fn change_answered(change: Change, answer: SearchAnswer) -> Effect
 }
 
 // The new word is stored, and the change ends.
+#[tactic(auto, unfolding(crate::specs::Change::change_stores))]
 fn change_stores(change: Change, place: Place) -> Effect
     ensures { paper_effect result ≡ change_stores change place }
 {
@@ -124,6 +135,7 @@ fn change_stores(change: Change, place: Place) -> Effect
 }
 
 // What the end of a change stores in the record: of a command's change the command and its answer.
+#[tactic(auto, unfolding(crate::specs::Change::alteration_ends, crate::specs::Change::command_ends))]
 fn command_ends(change: Change, answer: CommandAnswer) -> Update
     ensures { result ≡ command_ends change answer }
 {

@@ -1,5 +1,7 @@
 // A put's step: search; found, store the new word there; else take the first empty position, the reach
 // stored before the slot where the index exceeds it.
+#![tactic(auto)]
+
 ghost use Rattle.std.specs.Prelude.{◌≡◌};
 ghost use Rattle.effects.specs.Effects.{paper_effect};
 ghost use Rattle.put.specs.Put.{put_access, put_at, put_searched, put_answered, put_scanned, put_takes, put_advance};
@@ -13,6 +15,7 @@ use search::{SearchAnswer, Searched, search_access, search_advance};
 use slot_words::word::word_of;
 
 // Part 1: the access that comes next.
+#[tactic(auto, unfolding(crate::specs::Put::exceeds, crate::specs::Put::put_access, crate::specs::Put::put_stage_access))]
 pub fn put_access(put: Put, m: u32, reach: u32) -> WriterAccess
     ensures { result ≡ put_access m reach put }
 {
@@ -36,6 +39,7 @@ pub fn put_access(put: Put, m: u32, reach: u32) -> WriterAccess
 }
 
 // Part 3: what follows from the reach, from the word read, or from the slot stored.
+#[tactic(auto, unfolding(crate::specs::Put::put_advance, crate::specs::Put::put_stage_advance))]
 pub fn put_advance(put: Put, k: u32, reach: u32, slot: u32, word: u64) -> Effect
     ensures { paper_effect result ≡ put_advance k reach slot put word }
 {
@@ -57,6 +61,7 @@ pub fn put_advance(put: Put, k: u32, reach: u32, slot: u32, word: u64) -> Effect
 }
 
 // The put goes on at this stage.
+#[tactic(auto, unfolding(crate::specs::Put::put_at))]
 fn put_at(put: Put, stage: PutStage) -> Effect
     ensures { paper_effect result ≡ put_at put stage }
 {
@@ -68,6 +73,7 @@ fn put_at(put: Put, stage: PutStage) -> Effect
     }))
 }
 
+#[tactic(auto, unfolding(crate::specs::Put::put_searched))]
 fn put_searched(put: Put, searched: Searched) -> Effect
     ensures { paper_effect result ≡ put_searched put searched }
 {
@@ -78,6 +84,7 @@ fn put_searched(put: Put, searched: Searched) -> Effect
 }
 
 // What the search's answer leads to.
+#[tactic(auto, unfolding(crate::specs::Put::put_answered))]
 pub fn put_answered(put: Put, answer: SearchAnswer) -> Effect
     ensures { paper_effect result ≡ put_answered put answer }
 {
@@ -88,6 +95,7 @@ pub fn put_answered(put: Put, answer: SearchAnswer) -> Effect
 }
 
 // A position of the second search has been read.
+#[tactic(auto, unfolding(crate::specs::Put::put_scanned))]
 fn put_scanned(put: Put, k: u32, index: u32, word: u64) -> Effect
     ensures { paper_effect result ≡ put_scanned k put index word }
 {
@@ -102,6 +110,7 @@ fn put_scanned(put: Put, k: u32, index: u32, word: u64) -> Effect
 }
 
 // The first empty position is taken: the reach first, where the index exceeds it.
+#[tactic(auto, unfolding(crate::specs::Put::exceeds, crate::specs::Put::put_takes))]
 fn put_takes(put: Put, reach: u32, slot: u32, index: u32) -> Effect
     ensures { paper_effect result ≡ put_takes reach slot put index }
 {

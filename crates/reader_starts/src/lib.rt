@@ -1,4 +1,6 @@
 // The calls that start a reader's lookup or walk. A start takes no step.
+#![tactic(auto)]
+
 ghost use Rattle.std.specs.Prelude.{◌≡◌};
 ghost use Rattle.refusal.specs.Refusals.{paper_judged};
 ghost use Rattle.record.specs.Parts.{with_work};
@@ -21,6 +23,7 @@ pub struct StartedReader {
 }
 
 // Document 01's order: 1, 3, 2, 4.
+#[tactic(auto, unfolding(crate::specs::Starts::lookup_work_refusal, refusal::specs::Judging::refuse_if))]
 fn judge_lookup_work(fits: bool, reader: u32, point: u32, work: ReaderWork) -> Judged
     ensures { paper_judged result ≡ lookup_work_refusal fits reader point work }
 {
@@ -40,6 +43,7 @@ fn judge_lookup_work(fits: bool, reader: u32, point: u32, work: ReaderWork) -> J
 }
 
 // Whether a lookup may start.
+#[tactic(auto, unfolding(crate::specs::Starts::lookup_refusal))]
 pub fn judge_lookup(panel: Record, lent: usize, reader: u32, point: u32) -> Judged
     ensures { paper_judged result ≡ lookup_refusal lent panel reader point }
 {
@@ -48,6 +52,7 @@ pub fn judge_lookup(panel: Record, lent: usize, reader: u32, point: u32) -> Judg
 }
 
 // Document 01's order: 1, 3, 4.
+#[tactic(auto, unfolding(refusal::specs::Judging::refuse_if, crate::specs::Starts::walk_work_refusal))]
 fn judge_walk_work(fits: bool, reader: u32, work: ReaderWork) -> Judged
     ensures { paper_judged result ≡ walk_work_refusal fits reader work }
 {
@@ -64,6 +69,7 @@ fn judge_walk_work(fits: bool, reader: u32, work: ReaderWork) -> Judged
 }
 
 // The reader is given its work, unless the call is refused.
+#[tactic(auto, unfolding(crate::specs::Starts::given_work))]
 fn given_work(judged: Judged, found: Reader, work: ReaderWork) -> StartedReader
     ensures { paper_started result ≡ given_work (paper_judged judged) found.work work }
 {
@@ -81,6 +87,7 @@ fn given_work(judged: Judged, found: Reader, work: ReaderWork) -> StartedReader
 
 // Starts a lookup of a point, by what it needs of the record: whether that is in range, and the reader as
 // found there. A start that is refused leaves the reader as it is.
+#[tactic(auto, unfolding(crate::specs::Starts::lookup_work))]
 pub fn lookup_started(fits: bool, reader: u32, found: Reader, point: u32) -> StartedReader
     ensures { paper_started result ≡ lookup_work fits reader point found.work }
 {
@@ -95,6 +102,7 @@ pub fn lookup_started(fits: bool, reader: u32, found: Reader, point: u32) -> Sta
 }
 
 // Starts a walk over the slots, likewise.
+#[tactic(auto, unfolding(crate::specs::Starts::walk_work))]
 pub fn walk_started(fits: bool, reader: u32, found: Reader) -> StartedReader
     ensures { paper_started result ≡ walk_work fits reader found.work }
 {
@@ -118,6 +126,7 @@ fn finish(panel: Record, reader: u32, next: StartedReader) -> StartOutcome
 }
 
 // Starts a reader's lookup of a point.
+#[tactic(auto, unfolding(reader_step::specs::Reader::after_step))]
 pub fn start_lookup(panel: Record, slots: &[u64], reader: u32, point: u32) -> StartOutcome
     ensures { outcome result.panel slots.now (paper_start result.answer) ≡ start_lookup panel slots.now reader point }
 {
@@ -129,6 +138,7 @@ pub fn start_lookup(panel: Record, slots: &[u64], reader: u32, point: u32) -> St
 }
 
 // Starts a reader's walk over the slots.
+#[tactic(auto, unfolding(reader_step::specs::Reader::after_step))]
 pub fn start_walk(panel: Record, slots: &[u64], reader: u32) -> StartOutcome
     ensures { outcome result.panel slots.now (paper_start result.answer) ≡ start_walk panel slots.now reader }
 {

@@ -1,5 +1,7 @@
 // A reader's step. It is counted, and makes one access, in three parts: which access comes next (pure), the
 // access, and what follows from the word (pure).
+#![tactic(auto)]
+
 ghost use Rattle.std.specs.Prelude.{◌≡◌};
 ghost use Rattle.refusal.specs.Refusals.{paper_judged};
 ghost use Rattle.answers.specs.Answers.{paper_ending, paper_step, outcome};
@@ -30,6 +32,7 @@ pub struct SteppedReader {
 }
 
 // Part 1: the access that comes next.
+#[tactic(auto, unfolding(crate::specs::Reader::reader_access))]
 fn reader_access(work: ReaderWork, m: u32) -> ReadAccess
     ensures { result ≡ reader_access m work }
 {
@@ -45,6 +48,7 @@ fn reader_access(work: ReaderWork, m: u32) -> ReadAccess
 
 // Part 3: what follows from the reach or from the word read. A reader without work never comes to it: its
 // step is refused with 5.
+#[tactic(auto, unfolding(crate::specs::Reader::reader_advance))]
 fn reader_advance(work: ReaderWork, m: u32, reach: u32, word: u64) -> Effect
     ensures { paper_effect result ≡ reader_advance m reach work word }
 {
@@ -58,6 +62,7 @@ fn reader_advance(work: ReaderWork, m: u32, reach: u32, word: u64) -> Effect
     }
 }
 
+#[tactic(auto, unfolding(crate::specs::Reader::lookup_advance, crate::specs::Reader::lookup_effect))]
 fn lookup_advance(lookup: Lookup, reach: u32, word: u64) -> Effect
     ensures { paper_effect result ≡ lookup_advance reach lookup word }
 {
@@ -82,6 +87,7 @@ fn lookup_advance(lookup: Lookup, reach: u32, word: u64) -> Effect
 }
 
 // What a lookup ends with, by its search's answer.
+#[tactic(auto, unfolding(crate::specs::Reader::lookup_ending))]
 pub fn lookup_ending(answer: SearchAnswer) -> Ending
     ensures { paper_ending result ≡ lookup_ending answer }
 {
@@ -91,6 +97,7 @@ pub fn lookup_ending(answer: SearchAnswer) -> Ending
     }
 }
 
+#[tactic(auto, unfolding(crate::specs::Reader::walk_advance))]
 fn walk_advance(walk: Walk, m: u32, word: u64) -> Effect
     ensures { paper_effect result ≡ walk_advance m walk word }
 {
@@ -122,6 +129,7 @@ fn stepped(effect: Effect) -> SteppedReader
 }
 
 // The three parts of the step of a reader whose work counts it.
+#[tactic(auto, unfolding(crate::specs::Reader::work_runs))]
 fn run_step(work: ReaderWork, m: u32, reach: u32, slots: &[u64]) -> Effect
     ensures { paper_effect result ≡ work_runs m reach work slots.now }
 {
@@ -130,6 +138,7 @@ fn run_step(work: ReaderWork, m: u32, reach: u32, slots: &[u64]) -> Effect
 }
 
 // Document 01's order: 1, 3, 5.
+#[tactic(auto, unfolding(refusal::specs::Judging::refuse_if, crate::specs::Reader::work_refusal))]
 fn judge_step(fits: bool, reader: u32, work: ReaderWork) -> Judged
     ensures { paper_judged result ≡ work_refusal fits reader work }
 {
@@ -147,6 +156,7 @@ fn judge_step(fits: bool, reader: u32, work: ReaderWork) -> Judged
 
 // The next step of a reader's lookup or walk, by what it needs of the record: whether the record is in
 // range, the reader as found there, m, k and the reach. A step that is refused leaves the reader as it is.
+#[tactic(auto, unfolding(crate::specs::Reader::step_work))]
 pub fn step_work(
     fits: bool,
     reader: u32,
@@ -169,6 +179,7 @@ pub fn step_work(
 }
 
 // The next step of a reader's lookup or walk, of a record that has been judged.
+#[tactic(auto, unfolding(crate::specs::Reader::after_step))]
 pub fn step_judged(fits: bool, panel: Record, slots: &[u64], reader: u32) -> StepOutcome
     ensures { outcome result.panel slots.now (paper_step result.answer) ≡ step_judged fits panel slots.now reader }
 {

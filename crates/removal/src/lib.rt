@@ -1,5 +1,7 @@
 // A removal's step: search; found, store 0 and uncount the index; then one more step where the reach
 // has to be lowered.
+#![tactic(auto)]
+
 ghost use Rattle.std.specs.Prelude.{◌≡◌};
 ghost use Rattle.effects.specs.Effects.{paper_effect};
 ghost use Rattle.removal.specs.Removal.{removal_access, removal_at, removal_searched, removal_answered, is_last, removal_empties, removal_lowers, removal_advance};
@@ -14,6 +16,7 @@ use record::{Removal, RemovalStage, WriterWork};
 use search::{SearchAnswer, Searched, search_access, search_advance};
 
 // Part 1: the access that comes next.
+#[tactic(auto, unfolding(crate::specs::Removal::removal_access, crate::specs::Removal::removal_stage_access))]
 pub fn removal_access(m: u32, k: u32, counts: &[u32; 64], removal: Removal) -> WriterAccess
     ensures { result ≡ removal_access m k counts.now removal }
 {
@@ -28,6 +31,7 @@ pub fn removal_access(m: u32, k: u32, counts: &[u32; 64], removal: Removal) -> W
 }
 
 // Part 3: what follows from the reach, or from the word read or stored.
+#[tactic(auto, unfolding(crate::specs::Removal::removal_advance, crate::specs::Removal::removal_stage_advance))]
 pub fn removal_advance(
     k: u32,
     reach: u32,
@@ -49,6 +53,7 @@ pub fn removal_advance(
 }
 
 // The removal goes on at this stage.
+#[tactic(auto, unfolding(crate::specs::Removal::removal_at))]
 fn removal_at(removal: Removal, stage: RemovalStage, update: Update) -> Effect
     ensures { paper_effect result ≡ removal_at removal stage update }
 {
@@ -63,6 +68,7 @@ fn removal_at(removal: Removal, stage: RemovalStage, update: Update) -> Effect
     }
 }
 
+#[tactic(auto, unfolding(crate::specs::Removal::removal_searched))]
 fn removal_searched(removal: Removal, searched: Searched) -> Effect
     ensures { paper_effect result ≡ removal_searched removal searched }
 {
@@ -75,6 +81,7 @@ fn removal_searched(removal: Removal, searched: Searched) -> Effect
 }
 
 // What the search's answer leads to.
+#[tactic(auto, unfolding(crate::specs::Removal::removal_answered))]
 pub fn removal_answered(removal: Removal, answer: SearchAnswer) -> Effect
     ensures { paper_effect result ≡ removal_answered removal answer }
 {
@@ -85,6 +92,7 @@ pub fn removal_answered(removal: Removal, answer: SearchAnswer) -> Effect
 }
 
 // The index is the reach, and no point uses it once this one is uncounted.
+#[tactic(auto, unfolding(crate::specs::Removal::is_last))]
 fn is_last(reach: u32, counts: &[u32; 64], index: u32) -> bool
     ensures { result ≡ is_last reach counts.now index }
 {
@@ -93,6 +101,7 @@ fn is_last(reach: u32, counts: &[u32; 64], index: u32) -> bool
 }
 
 // The slot is emptied. The reach is lowered by a step of its own.
+#[tactic(auto, unfolding(crate::specs::Removal::removal_empties))]
 fn removal_empties(reach: u32, counts: &[u32; 64], removal: Removal, index: u32) -> Effect
     ensures { paper_effect result ≡ removal_empties reach counts.now removal index }
 {
@@ -103,6 +112,7 @@ fn removal_empties(reach: u32, counts: &[u32; 64], removal: Removal, index: u32)
 }
 
 // The reach is lowered, and the removal ends.
+#[tactic(auto, unfolding(crate::specs::Removal::removal_lowers))]
 fn removal_lowers(k: u32, counts: &[u32; 64]) -> Effect
     ensures { paper_effect result ≡ removal_lowers k counts.now }
 {

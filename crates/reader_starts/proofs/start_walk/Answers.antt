@@ -1,0 +1,18 @@
+use mathlib.Core.Path.{◌∙◌, ap}
+use Rattle.answers.specs.Answers.{outcome, paper_start}
+use Rattle.reader_step.specs.Reader.{after_step}
+use Rattle.reader_starts.specs.Starts.{walk_work}
+use Rattle.reader_starts.proofs.StartWork.{walk_by_work}
+use Rattle.reader_starts.proofs.start_walk.Goals as goal
+
+pub returns : goal.returns
+unfolding after_step
+returns c =
+    let a = c.args in
+    let p = a.panel in
+    let s = a.slots.now in
+    let fits = c.is_in_range-fits.ensures in
+    let work = c.work_of.ensures in
+    (λ j. outcome (c.finish.ensures.0 j) s (paper_start (c.finish.ensures.1 j)))
+    ∙ ap (after_step p s a.reader) (c.walk_started.ensures ∙ (λ j. walk_work (fits j) a.reader (work j)))
+    ∙ walk_by_work p s a.reader

@@ -180,7 +180,7 @@ unfolding work_after
 work_ends m k work [] few e at_end h = none_left m k work e h
 work_ends m k work (now ∷ rest) few e (at_step r rs) h =
     let after = steps_on m k now.reach work now.word few r e in
-    work_ends m k _ rest few after.is_in_range rs (omega (arith, after.less))
+    work_ends m k (reader_advance m now.reach (reader_counted k work) now.word).work rest few after.is_in_range rs (omega (arith, after.less))
 
 -- "read the reach r; then positions 1 to r": at most k + 1 steps
 pub lookup_ends : (m k point : ℕ) (met : List Met) → k ≤ 64 → valid_point point ≡ true → ReachWithin k met → length met ≡ step_bound Kind-as-Lookup k → work_after m k (new_lookup point) met ≡ Idle

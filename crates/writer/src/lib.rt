@@ -1,6 +1,8 @@
 // The writer's machine: puts, changes and removals, a command's change among them. A start takes no
 // step; every step is counted and makes one access, in three parts: which access comes next (pure), the
 // access, and what follows from the word (pure).
+#![tactic(auto)]
+
 mod starts;
 mod step;
 mod work;

@@ -23,6 +23,7 @@ pub struct StartedWriter {
 }
 
 // Document 01's order: 1, 2, 4.
+#[tactic(auto, unfolding(refusal::specs::Judging::refuse_if, crate::specs::Starts::work_start_refusal))]
 fn judge(fits: bool, point: u32, work: WriterWork) -> Judged
     ensures { paper_judged result ≡ work_start_refusal fits point work }
 {
@@ -39,6 +40,7 @@ fn judge(fits: bool, point: u32, work: WriterWork) -> Judged
 }
 
 // The same by the record.
+#[tactic(auto, unfolding(crate::specs::Starts::start_refusal))]
 pub fn judge_start(panel: Record, lent: usize, point: u32) -> Judged
     ensures { paper_judged result ≡ start_refusal lent panel point }
 {
@@ -48,6 +50,7 @@ pub fn judge_start(panel: Record, lent: usize, point: u32) -> Judged
 }
 
 // The writer is given new work, unless the call is refused.
+#[tactic(auto, unfolding(crate::specs::Starts::start_work))]
 fn started(fits: bool, writer: Writer, point: u32, new: WriterWork) -> StartedWriter
     ensures { paper_started result ≡ start_work fits writer.work point new }
 {
@@ -106,6 +109,7 @@ pub fn removal_started(fits: bool, writer: Writer, point: u32) -> StartedWriter
 }
 
 // The record after a start, and its answer.
+#[tactic(auto, unfolding(record::specs::Parts::with_writer))]
 fn with_started(panel: Record, next: StartedWriter) -> StartOutcome
     ensures { (result.panel ≡ with_writer panel next.writer.work) × (result.answer ≡ next.answer) }
 {
@@ -120,6 +124,7 @@ fn with_started(panel: Record, next: StartedWriter) -> StartOutcome
 }
 
 // Starts a put of a point and its value.
+#[tactic(auto, unfolding(crate::specs::Starts::start_put))]
 pub fn start_put(panel: Record, slots: &[u64], point: u32, value: u32) -> StartOutcome
     ensures { outcome result.panel slots.now (paper_start result.answer) ≡ start_put panel slots.now point value }
 {
@@ -129,6 +134,7 @@ pub fn start_put(panel: Record, slots: &[u64], point: u32, value: u32) -> StartO
 }
 
 // Starts a change of a point's value to (value AND keep) XOR flip.
+#[tactic(auto, unfolding(crate::specs::Starts::start_change))]
 pub fn start_change(panel: Record, slots: &[u64], point: u32, keep: u32, flip: u32) -> StartOutcome
     ensures { outcome result.panel slots.now (paper_start result.answer) ≡ start_change panel slots.now point keep flip }
 {
@@ -138,6 +144,7 @@ pub fn start_change(panel: Record, slots: &[u64], point: u32, keep: u32, flip: u
 }
 
 // Starts a removal of a point.
+#[tactic(auto, unfolding(crate::specs::Starts::start_removal))]
 pub fn start_removal(panel: Record, slots: &[u64], point: u32) -> StartOutcome
     ensures { outcome result.panel slots.now (paper_start result.answer) ≡ start_removal panel slots.now point }
 {

@@ -10,6 +10,7 @@ use record::Record;
 use record_ranges::is_in_range;
 
 // The next step of the writer's put, change or removal, of a record that has been judged.
+#[tactic(auto, unfolding(crate::specs::Work::step_stored, record::specs::Parts::with_counts, record::specs::Parts::with_reach, record::specs::Parts::with_stations, record::specs::Parts::with_writer))]
 pub fn step_judged(fits: bool, panel: Record, slots: &mut [u64]) -> StepOutcome
     ensures { outcome result.panel slots.new (paper_step result.answer) ≡ step_stored fits panel slots.old }
 {

@@ -44,6 +44,7 @@ pub(crate) struct WorkStep {
 }
 
 // Part 1: the access that comes next.
+#[tactic(auto, unfolding(crate::specs::Step::work_access))]
 pub fn writer_access(
     m: u32,
     k: u32,
@@ -63,6 +64,7 @@ pub fn writer_access(
 
 // Part 3: what follows from the reach, from the word read, or from the slot stored. A writer without work
 // never comes to it: its step is refused with 5.
+#[tactic(auto, unfolding(crate::specs::Step::work_advance))]
 pub fn writer_advance(
     k: u32,
     reach: u32,
@@ -82,6 +84,7 @@ pub fn writer_advance(
 }
 
 // Document 01's order: 1, 5.
+#[tactic(auto, unfolding(refusal::specs::Judging::refuse_if, crate::specs::Step::work_refusal))]
 fn judge_step(fits: bool, work: WriterWork) -> Judged
     ensures { paper_judged result ≡ work_refusal fits work }
 {
@@ -95,6 +98,7 @@ fn judge_step(fits: bool, work: WriterWork) -> Judged
 }
 
 // The three parts of a step of work that counts it.
+#[tactic(auto, unfolding(crate::specs::Work::after_access, crate::specs::Work::work_runs))]
 fn run_step(
     m: u32,
     k: u32,
@@ -120,6 +124,7 @@ fn run_step(
 }
 
 // A step is counted and made, unless it is refused.
+#[tactic(auto, unfolding(crate::specs::Work::step_work))]
 fn judged_step(
     fits: bool,
     m: u32,
@@ -157,6 +162,7 @@ fn station_underway(work: WriterWork) -> u32
 }
 
 // Its place among the stations.
+#[tactic(auto, unfolding(crate::specs::Work::station_at))]
 pub fn station_at(writer: Writer) -> usize
     ensures { result ≡ station_at writer.work }
 {

@@ -11,11 +11,11 @@ loop-i-preserved c =
     let l = c.loop-i in (
       search rules,
       l.invariant.1,
-      rw c.reader_marked-marks.ensures (marked_next a.t1 l.marks l.i (omega arith)) ∙ l.invariant.2,
+      rw c.reader_marked-marks.ensures (marked_next a.readers l.marks l.i (omega arith)) ∙ l.invariant.2,
     )
 
 pub returns : goal.returns
 returns c =
     let a = c.args in
     let l = c.loop-i in
-    sym (marked_done a.t1 l.marks l.i (omega arith)) ∙ l.invariant.2
+    sym (marked_done a.readers l.marks l.i (omega arith)) ∙ l.invariant.2

@@ -1,5 +1,7 @@
 // The dispatcher: the writer and the sixteen readers take turns in a fixed circle, and a party without work is
 // passed over. A turn is the very step of the party that it serves.
+#![tactic(auto)]
+
 ghost use Rattle.std.specs.Prelude.{ℕ, List, ◌≡◌};
 ghost use Rattle.answers.specs.Answers.{paper_step, paper_turn, outcome};
 ghost use Rattle.dispatcher.specs.Due.{turn_answer, turned_by, writer_turn, reader_turn};
@@ -37,6 +39,7 @@ fn turned(due: u32, step: StepOutcome) -> TurnOutcome
 }
 
 // A turn that is due to the writer.
+#[tactic(auto, unfolding(crate::specs::Due::writer_turn))]
 fn writer_turn(panel: Record, slots: &mut [u64]) -> TurnOutcome
     ensures { outcome result.panel slots.new (paper_turn result.answer) ≡ writer_turn panel slots.old }
 {
@@ -45,6 +48,7 @@ fn writer_turn(panel: Record, slots: &mut [u64]) -> TurnOutcome
 
 // A turn that is due to a reader, to nobody (17), or on a record out of range (18). In the last two cases the
 // step of reader 0 is refused as the turn is.
+#[tactic(auto, unfolding(crate::specs::Due::reader_turn))]
 fn reader_turn(panel: Record, slots: &[u64], due: u32) -> TurnOutcome
     ensures { outcome result.panel slots.now (paper_turn result.answer) ≡ reader_turn due panel slots.now }
 {
@@ -57,6 +61,7 @@ fn reader_turn(panel: Record, slots: &[u64], due: u32) -> TurnOutcome
 }
 
 // A turn. The record is judged once, not again by the step.
+#[tactic(auto, unfolding(crate::proofs::TurnLaws::due_on))]
 pub fn turn(panel: Record, slots: &mut [u64]) -> TurnOutcome
     ensures { outcome result.panel slots.new (paper_turn result.answer) ≡ take_turn panel slots.old }
 {

@@ -48,6 +48,7 @@ pub(crate) struct Ran {
 }
 
 // The record after the operation.
+#[tactic(auto, unfolding(crate::specs::Whole::leaves, record::specs::Parts::with_reach))]
 pub fn with_changes(panel: Record, changes: Changes) -> Record
     ensures { result ≡ leaves panel changes }
 {
@@ -57,6 +58,7 @@ pub fn with_changes(panel: Record, changes: Changes) -> Record
 }
 
 // Whether they change anything in a record of this reach.
+#[tactic(auto, unfolding(crate::specs::Whole::changes_any))]
 pub fn has_changes(changes: Changes, reach: u32) -> bool
     ensures { result ≡ changes_any reach changes }
 {
@@ -65,6 +67,7 @@ pub fn has_changes(changes: Changes, reach: u32) -> bool
 
 // The changes of an operation that counted an index, or none where that is 0: on a record that no history
 // leads to the count may be at its end already, and then no count is another than before.
+#[tactic(auto, unfolding(crate::specs::WholeFacts::changes_made))]
 fn changes_made(reach: u32, index: u32, before: u32, after: u32) -> Changes
     ensures { result ≡ changes_made reach index before after }
 {

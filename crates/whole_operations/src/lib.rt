@@ -1,5 +1,7 @@
 // Whole operations, for a caller with nothing to do in between: started, and stepped to their end. They
 // hand back what they change in the record, not the record, which would be copied for it.
+#![tactic(auto)]
+
 mod budget;
 mod changes;
 mod lookup;

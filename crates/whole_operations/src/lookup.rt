@@ -11,6 +11,7 @@ use record::Record;
 use refusal::Judged;
 
 // Looks a point up, from the start to the end, which leaves the record as it is.
+#[tactic(auto, unfolding(reader_starts::specs::Starts::start_lookup, reader_starts::specs::Starts::start_reader, crate::specs::Whole::whole_lookup))]
 pub fn whole_lookup(panel: Record, slots: &[u64], reader: u32, point: u32) -> WholeAnswer
     ensures { outcome panel slots.now (paper_whole result) ≡ whole_lookup panel slots.now reader point }
 {

@@ -25,6 +25,7 @@ use search::access::ReadAccess;
 use writer::judge_start;
 
 // Part 1 of a step.
+#[tactic(auto, unfolding(crate::specs::WholeFacts::puts, record::specs::Parts::with_reach, writer::specs::Step::work_access))]
 fn access(panel: Record, reach: u32, work: WriterWork) -> WriterAccess
     requires { puts work ≡ true }
     ensures { result ≡ writer_access (with_reach panel reach) work }
@@ -38,6 +39,7 @@ fn access(panel: Record, reach: u32, work: WriterWork) -> WriterAccess
 }
 
 // Part 3 of a step.
+#[tactic(auto, unfolding(crate::specs::WholeFacts::puts, record::specs::Parts::with_reach, writer::specs::Step::work_advance))]
 fn advance(panel: Record, reach: u32, work: WriterWork, slot: u32, word: u64) -> Effect
     requires { puts work ≡ true }
     ensures { paper_effect result ≡ writer_advance (with_reach panel reach) work slot word }
@@ -51,6 +53,7 @@ fn advance(panel: Record, reach: u32, work: WriterWork, slot: u32, word: u64) ->
 }
 
 // The index that one point more uses, or 0.
+#[tactic(auto, unfolding(crate::specs::WholeFacts::index_counted))]
 fn index_counted(update: Update) -> u32
     ensures { result ≡ index_counted update }
 {
@@ -66,6 +69,7 @@ fn index_counted(update: Update) -> u32
 // The steps that are left of a put, if any are, to the end or as many as the budget allows. So many were made
 // before. The record was judged when the put was started, and every step keeps it in range, so that no step
 // needs to judge it again.
+#[tactic(auto, unfolding(record::specs::Parts::count_of, effects::specs::Counts::counted, crate::specs::Whole::leaves, record::specs::Parts::with_count, record::specs::Parts::with_counts, record::specs::Parts::with_numbered, record::specs::Parts::with_reach, record::specs::Parts::with_writer))]
 fn steps(panel: Record, slots: &mut [u64], begun: Effect, before: u32, budget: u64) -> Ran
     requires { (in_range (length slots.old) (with_writer panel begun.work) ≡ true) × (is_underway (step_answer before (paper_progress begun.progress)) ≡ not (is_writer_idle begun.work)) × (puts begun.work ≡ true) }
     ensures { (outcome (with_writer (leaves panel result.changes) result.work) slots.new (step_answer result.steps (paper_progress result.progress)) ≡ until_ended writer_step budget (outcome (with_writer panel begun.work) slots.old (step_answer before (paper_progress begun.progress)))) × (is_underway (step_answer result.steps (paper_progress result.progress)) ≡ not (is_writer_idle result.work)) }
@@ -102,6 +106,7 @@ fn steps(panel: Record, slots: &mut [u64], begun: Effect, before: u32, budget: u
 }
 
 // Puts a point and its value, from the start to the end.
+#[tactic(auto, unfolding(crate::proofs::WriterSearch::answered_by, crate::specs::Whole::changes_of, crate::specs::Whole::leaves, crate::proofs::WriterSearch::point_of_work, crate::proofs::WriterSearch::searching_by, writer::specs::Starts::start_put, crate::specs::Whole::whole_put, record::specs::Parts::with_count, record::specs::Parts::with_counts, record::specs::Parts::with_reach, record::specs::Parts::with_writer))]
 pub fn whole_put(panel: Record, slots: &mut [u64], point: u32, value: u32) -> Written
     ensures { (outcome (record_after panel result) slots.new (paper_written result) ≡ whole_put panel slots.old point value) × (changes_in result ≡ changes_of panel (whole_put panel slots.old point value)) }
 {

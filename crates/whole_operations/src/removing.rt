@@ -20,6 +20,7 @@ use removal::removal_answered;
 use writer::{judge_start, writer_access, writer_advance};
 
 // The index that one point less uses, or the one before.
+#[tactic(auto, unfolding(crate::specs::WholeFacts::index_uncounted))]
 fn index_uncounted(index: u32, update: Update) -> u32
     ensures { result ≡ index_uncounted index update }
 {
@@ -35,6 +36,7 @@ fn index_uncounted(index: u32, update: Update) -> u32
 // The steps that are left of a removal, if any are, to the end or as many as the budget allows. So many were
 // made before. The record was judged when the removal was started, and every step keeps it in range, so that
 // no step needs to judge it again.
+#[tactic(auto, unfolding(crate::specs::Whole::leaves, effects::specs::Effects::updated, record::specs::Parts::with_writer))]
 fn steps(panel: Record, slots: &mut [u64], begun: Effect, before: u32, budget: u64) -> Ran
     requires { (in_range (length slots.old) (with_writer panel begun.work) ≡ true) × (is_underway (step_answer before (paper_progress begun.progress)) ≡ not (is_writer_idle begun.work)) × (removes begun.work ≡ true) }
     ensures { (outcome (with_writer (leaves panel result.changes) result.work) slots.new (step_answer result.steps (paper_progress result.progress)) ≡ until_ended writer_step budget (outcome (with_writer panel begun.work) slots.old (step_answer before (paper_progress begun.progress)))) × (is_underway (step_answer result.steps (paper_progress result.progress)) ≡ not (is_writer_idle result.work)) }
@@ -75,6 +77,7 @@ fn steps(panel: Record, slots: &mut [u64], begun: Effect, before: u32, budget: u
 }
 
 // Removes a point, from the start to the end.
+#[tactic(auto, unfolding(crate::proofs::WriterSearch::answered_by, crate::specs::Whole::changes_of, crate::specs::Whole::leaves, crate::proofs::WriterSearch::point_of_work, crate::proofs::WriterSearch::searching_by, writer::specs::Starts::start_removal, crate::specs::Whole::whole_removal, record::specs::Parts::with_count, record::specs::Parts::with_counts, record::specs::Parts::with_reach, record::specs::Parts::with_writer))]
 pub fn whole_removal(panel: Record, slots: &mut [u64], point: u32) -> Written
     ensures { (outcome (record_after panel result) slots.new (paper_written result) ≡ whole_removal panel slots.old point) × (changes_in result ≡ changes_of panel (whole_removal panel slots.old point)) }
 {

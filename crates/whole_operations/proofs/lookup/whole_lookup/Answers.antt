@@ -1,0 +1,48 @@
+use Prim.Native.Nat.{ℕ}
+use mathlib.Core.Path.{refl, ◌∙◌, sym, ap}
+use borrow.Author.Rules.{rules}
+use Rattle.refusal.specs.Refusals.{number_of, paper_judged}
+use Rattle.record.specs.Parts.{with_work}
+use Rattle.counting.specs.declared.steps.OperationKind.TheVariants.{Lookup}
+use Rattle.counting.specs.Steps.{step_bound}
+use Rattle.answers.specs.Answers.{Ending, completed, ended, outcome, unless_refused, refused, started}
+use Rattle.answers.proofs.AnswerLaws.{refused_call}
+use Rattle.reader_step.specs.Reader.{lookup_ending}
+use Rattle.reader_starts.specs.Starts.{new_lookup, start_reader, start_lookup}
+use Rattle.whole_operations.specs.declared.searching.SearchEnd.{SearchEnd}
+use Rattle.whole_operations.specs.Whole.{until_ended, reader_step, whole_lookup}
+use Rattle.whole_operations.proofs.WholeLaws.{has_ended}
+use Rattle.whole_operations.proofs.WholeLookup.{looks_up, reach_fits}
+use Rattle.whole_operations.proofs.lookup.whole_lookup.Goals as goal
+
+pub whole_search-found-requires : goal.whole_search-found-requires
+whole_search-found-requires c =
+    let a = c.args in
+    let e = sym c.judge_lookup.ensures ∙ ap paper_judged c.in-Allowed.is in
+    let sixteen = search rules in
+    reach_fits a.panel a.slots.now a.reader a.point sixteen e
+
+pub returns-in-Refused : goal.returns-in-Refused
+unfolding whole_lookup start_lookup start_reader
+returns-in-Refused c =
+    let a = c.args in
+    let s = a.slots.now in
+    let step = reader_step a.reader in
+    let bound = step_bound Lookup a.panel.k in
+    let begun = outcome (with_work a.panel a.reader (new_lookup a.point)) s started in
+    let refusal = c.in-Refused.refusal in
+    let e = sym c.judge_lookup.ensures ∙ ap paper_judged c.in-Refused.is in
+    sym (has_ended step bound (outcome a.panel s (refused (number_of refusal))) refl)
+    ∙ ap (until_ended step bound)
+    (sym (ap (λ (n : ℕ). unless_refused n (outcome a.panel s) begun) e ∙ refused_call (outcome a.panel s) begun refusal))
+
+pub returns-in-Allowed : goal.returns-in-Allowed
+returns-in-Allowed c =
+    let a = c.args in
+    let s = a.slots.now in
+    let e = sym c.judge_lookup.ensures ∙ ap paper_judged c.in-Allowed.is in
+    let sixteen = search rules in
+    let found = c.whole_search-found in
+    ap (λ (ending : Ending). outcome a.panel s (ended (completed ending found.result.steps))) c.lookup_ending.ensures
+    ∙ ap (λ (end : SearchEnd). outcome a.panel s (ended (completed (lookup_ending end.answer) end.steps))) found.ensures
+    ∙ looks_up a.panel s a.reader a.point sixteen e

@@ -48,7 +48,9 @@ read_back (suc w) x before behind h =
     let m : 256 ^ suc w ≡ 256 ^ w * 256 = pow-suc 256 w in
     let p = read_back w (x / 256) before (x % 256 ∷ behind) (omega arith) in
     let q : get_or (front ++ (x % 256 ∷ behind)) (length before + w) 0 ≡ x % 256 = get_or_at front (x % 256) behind 0 (length before + w) n in
-    rw (e, p, q) (omega arith)
+    let r : big_endian (front ++ (x % 256 ∷ behind)) (length before) w * 256 + get_or (front ++ (x % 256 ∷ behind)) (length before + w) 0 ≡ x =
+    rw (p, q) (omega arith) in
+    ap (λ (s : List ℕ). big_endian s (length before) w * 256 + get_or s (length before + w) 0) e ∙ r
 
 -- the bytes that were read
 pub write_back : (w : ℕ) (s : List ℕ) (at : ℕ) → Bytes s → at + w ≤ length s → bytes_of w (big_endian s at w) ≡ take w (drop at s)

@@ -11,7 +11,7 @@ returns-in-Frame c =
     let s = c.args.bytes.now in
     let l = c.in-Frame.l in
     let ch = chosen _ l (sym c.layout_of.ensures ∙ c.in-Frame.is) in
-    c.read_by_lem.ensures
+    c.read_by.ensures
     ∙ ap (reading_by s) ch.laid_out
     ∙ sym (reading_laid s ch.kind (ne_eqb _ _ c.if-bytes-eq0.false) ch.byte)
 

@@ -37,5 +37,5 @@ returns c =
     let l = c.in-Frame.l in
     rw ch.byte
     (sym
-    (write_whole ch.kind a.f a.out.now l.length c.put_frame.new.0 (length_laid l ch.kind ch.laid_out) (rw ch.laid_out at e) c.if-out-l.false
+    (write_whole ch.kind a.f a.out.now l.length c.put_frame.new.out (length_laid l ch.kind ch.laid_out) (rw ch.laid_out at e) c.if-out-l.false
     (c.put_frame.ensures ∙ ap (λ (x : Layout). put_frame x a.f a.out.now) ch.laid_out)))

@@ -1,4 +1,3 @@
-use Prim.Native.Nat.{◌-◌}
 use mathlib.Core.Path.{sym, ◌∙◌}
 use native.Mathlib.Omega.{arith}
 use borrow.Author.Tests.{ne_eqb}
@@ -42,4 +41,4 @@ loop-i-preserved c =
 pub returns : goal.returns
 returns c =
     let l = c.loop-i in
-    sym (part_none l.part _ l.i _ c.loop-i-test.false.false) ∙ l.invariant
+    sym (part_none l.part _ l.i _ c.loop-i-test.false) ∙ l.invariant

@@ -1,5 +1,7 @@
 // The command entry: a station's command, as the bytes of its frame, starts its change, is answered
 // again, or is refused.
+#![tactic(auto)]
+
 ghost use Rattle.std.specs.Prelude.{ℕ, List, ◌≡◌};
 ghost use Rattle.refusal.specs.Refusals.{number_of};
 ghost use Rattle.record.specs.Parts.{with_writer};
@@ -46,6 +48,7 @@ fn sent_of(fields: Fields) -> Sent
 
 // The command that the bytes are. The map is judged before the length: another frame gets 9 at any
 // length.
+#[tactic(auto, unfolding(crate::specs::Command::frame_refusal, crate::specs::CommandFrames::receipt, crate::specs::CommandFrames::received_from, refusal::specs::Judging::refuse_if))]
 fn receive_command(bytes: &[u8]) -> Received
     ensures { paper_received result ≡ received_from bytes.now }
 {
@@ -92,6 +95,7 @@ fn refuse(panel: Record, refusal: Refusal) -> EntryOutcome
 }
 
 // The command is the next in turn.
+#[tactic(auto, unfolding(crate::specs::Command::change_starts, refusal::specs::Judging::refuse_if, answers::specs::Answers::unless_refused))]
 fn change_starts(panel: Record, sent: Sent) -> EntryOutcome
     ensures { (slots : List ℕ) → outcome result.panel slots (paper_entry result.answer) ≡ change_starts panel slots sent }
 {
@@ -107,6 +111,7 @@ fn change_starts(panel: Record, sent: Sent) -> EntryOutcome
 }
 
 // The number is that of the station's last command.
+#[tactic(auto, unfolding(crate::specs::Command::number_equal))]
 fn number_equal(panel: Record, sent: Sent, last: Station) -> EntryOutcome
     ensures { (slots : List ℕ) → outcome result.panel slots (paper_entry result.answer) ≡ number_equal panel slots sent last }
 {
@@ -124,6 +129,7 @@ fn number_equal(panel: Record, sent: Sent, last: Station) -> EntryOutcome
 }
 
 // Any other number. On a record out of range the last may be the largest u32, so the sum is a u64.
+#[tactic(auto, unfolding(crate::specs::Command::number_other))]
 fn number_other(panel: Record, sent: Sent, last: Station) -> EntryOutcome
     ensures { (slots : List ℕ) → outcome result.panel slots (paper_entry result.answer) ≡ number_other panel slots sent last }
 {
@@ -135,6 +141,7 @@ fn number_other(panel: Record, sent: Sent, last: Station) -> EntryOutcome
 }
 
 // A command beside the last one of its station.
+#[tactic(auto, unfolding(crate::specs::Command::in_turn))]
 fn in_turn(panel: Record, sent: Sent, last: Station) -> EntryOutcome
     ensures { (slots : List ℕ) → outcome result.panel slots (paper_entry result.answer) ≡ in_turn panel slots sent last }
 {
@@ -145,6 +152,7 @@ fn in_turn(panel: Record, sent: Sent, last: Station) -> EntryOutcome
 }
 
 // The answer to what was received.
+#[tactic(auto, unfolding(crate::specs::CommandFrames::answer_received, answers::specs::Answers::unless_refused))]
 fn answer_received(panel: Record, received: Received) -> EntryOutcome
     ensures { (slots : List ℕ) → outcome result.panel slots (paper_entry result.answer) ≡ answer_received panel slots (paper_received received) }
 {
@@ -155,6 +163,7 @@ fn answer_received(panel: Record, received: Received) -> EntryOutcome
 }
 
 // Takes a station's command. Document 01's order: 1, frame, 11 or 12 or the stored answer, 4.
+#[tactic(auto, unfolding(crate::specs::Command::entry_refusal, refusal::specs::Judging::refuse_if, crate::specs::Command::start_command, answers::specs::Answers::unless_refused))]
 pub fn start_command(panel: Record, slots: &[u64], bytes: &[u8]) -> EntryOutcome
     ensures { outcome result.panel slots.now (paper_entry result.answer) ≡ start_command panel slots.now bytes.now }
 {

@@ -1,5 +1,7 @@
 // Any call of document 01, and N1's turn, as a value, and `apply`, which carries it out. The claim about
 // every list of such calls stands in the crate `history`.
+#![tactic(auto)]
+
 pub mod outcomes;
 
 ghost use Rattle.std.specs.Prelude.{◌≡◌};
@@ -30,6 +32,7 @@ pub enum Call {
 }
 
 // Carries out a call. A command takes the frame lent; the other calls do not look at it.
+#[tactic(auto, unfolding(crate::specs::Calls::applied))]
 pub fn apply(panel: Record, slots: &mut [u64], call: Call, frame: &[u8]) -> CallOutcome
     ensures { outcome result.panel slots.new (paper_call result.answer) ≡ applied panel slots.old call frame.now }
 {

@@ -1,5 +1,6 @@
+use lib.ListN.{length}
 use Prim.Native.Nat.{ℕ}
-use mathlib.Core.Path.{refl, ◌∙◌, sym, ap}
+use mathlib.Core.Path.{◌≡◌, refl, ◌∙◌, sym, ap}
 use borrow.Author.Rules.{rules}
 use Rattle.refusal.specs.Refusals.{number_of, paper_judged}
 use Rattle.record.specs.Parts.{with_work}
@@ -19,7 +20,7 @@ pub whole_search-found-requires : goal.whole_search-found-requires
 whole_search-found-requires c =
     let a = c.args in
     let e = sym c.judge_lookup.ensures ∙ ap paper_judged c.in-Allowed.is in
-    let sixteen = search rules in
+    let sixteen : length a.panel.readers ≡ 16 = search rules in
     reach_fits a.panel a.slots.now a.reader a.point sixteen e
 
 pub returns-in-Refused : goal.returns-in-Refused
@@ -41,7 +42,7 @@ returns-in-Allowed c =
     let a = c.args in
     let s = a.slots.now in
     let e = sym c.judge_lookup.ensures ∙ ap paper_judged c.in-Allowed.is in
-    let sixteen = search rules in
+    let sixteen : length a.panel.readers ≡ 16 = search rules in
     let found = c.whole_search-found in
     ap (λ (ending : Ending). outcome a.panel s (ended (completed ending found.result.steps))) c.lookup_ending.ensures
     ∙ ap (λ (end : SearchEnd). outcome a.panel s (ended (completed (lookup_ending end.answer) end.steps))) found.ensures

@@ -59,7 +59,7 @@ loop-left-preserved c =
     let takes =
     step_kept a.panel l.reach l.index _ _ l.slots _ l.work made.result (step_answer l.steps (paper_progress l.progress)) _ _ _ _ (paper_effect effect.result) none adds
     l.invariant.1.holds (l.invariant.1.goes (omega arith)) made.ensures c.access-made.ensures c.slot_stored.ensures performed.0 performed.1 effect.ensures steps.ensures
-    c.reach_is_after.ensures c.index_counted-index.ensures in
+    c.reach_after-reach.ensures c.index_counted-index.ensures in
     let next = c.while_underway-left-in-loop-left.ensures ∙ ap (λ (b : Bool). cond b (l.left - 1) 0) (c.goes_on-in-loop-left.ensures steps.result) in (
       ap length performed.1 ∙ slots_length l.slots _ ∙ l.invariant.0,
       steps_on writer_step AtWork stays_at_work _ _ l.left _ l.invariant.1 (omega arith) _ takes _ next,

@@ -1,7 +1,7 @@
 use Prim.Native.Nat.{ℕ, ◌-◌, ◌≤◌}
 use mathlib.Core.Bool.{Bool, cond}
 use mathlib.Core.Logic.{⊎_elim}
-use mathlib.Core.Path.{refl, ◌∙◌, sym, ap, transport}
+use mathlib.Core.Path.{◌≡◌, refl, ◌∙◌, sym, ap, transport}
 use native.Mathlib.Omega.{arith}
 use lib.ListN.{length}
 use Rattle.record.specs.declared.Record.{Record}
@@ -18,6 +18,7 @@ use Rattle.whole_operations.proofs.WholeEnds.{stays_at_work}
 use Rattle.whole_operations.proofs.WorkBeside.{step_beside}
 use Rattle.whole_operations.proofs.Removals.{Kept, begins_kept, counted_kept, step_keeps}
 use Rattle.whole_operations.proofs.removing.steps.Goals as goal
+use Rattle.whole_operations.proofs.removing.steps.Goals.{in-Nothing, in_default}
 
 pub loop-left-init : goal.loop-left-init
 unfolding with_writer
@@ -48,11 +49,11 @@ loop-left-preserved c =
     let steps = c.steps_made-steps in
     let some : 1 ≤ l.left = omega arith in
     let goes = l.invariant.1.goes some in
-    let updates =
-    ⊎_elim
-    (λ kept. kept.2 ∙ sym (ap (updated l.held) kept.1.given.1))
-    (λ new. new.2 ∙ new.1.ensures)
-    c.match-update.branch in
+    let updates : c.match-update.held ≡ updated l.held c.writer_advance-next.result.update =
+    elim c.match-update.branch [
+      in-Nothing w ↦ w.held-is ∙ sym (ap (updated l.held) w.in-Nothing.is)
+    | in_default w ↦ w.held-is ∙ w.with_update-held.ensures
+    ] in
     let takes =
     step_beside l.held c.match-update.held l.slots _ l.work made.result (step_answer l.steps (paper_progress l.progress)) _ _ _ _ (paper_effect advances.result) l.invariant.1.holds goes
     made.ensures c.writer_access-made.ensures c.slot_stored-slot.ensures performed.0 performed.1 advances.ensures steps.ensures updates in

@@ -1,4 +1,5 @@
-use mathlib.Core.Path.{refl, ◌∙◌, sym, ap}
+use lib.ListN.{length}
+use mathlib.Core.Path.{◌≡◌, refl, ◌∙◌, sym, ap}
 use native.Mathlib.Omega.{arith}
 use borrow.Author.Rules.{rules}
 use Rattle.refusal.specs.Refusals.{paper_judged}
@@ -70,7 +71,7 @@ returns-in-Allowed c =
     let count = ap (λ (found : SearchEnd). found.steps) c.whole_search-found.ensures in
     let effect = c.removal_answered.ensures ∙ ap answered c.whole_search-found.ensures in
     let ran = c.steps-ran.ensures in
-    let all = search rules in
+    let all : length a.panel.counts ≡ 64 = search rules in
     let given = c.steps-ran.result in
     hands_back a.panel given.changes c.count_of.result _ given.steps (paper_progress given.progress) c.handed_back.result (whole_removal a.panel s a.point) all c.count_of.ensures c.handed_back.ensures
     (whole_ended a.panel s a.point (removal_begun a.point) (step_bound Removal a.panel.k) e (omega arith) refl (λ steps answer. (answered_removes _ answer).0) refl refl (removal_begins a.panel s a.point) (whole_removal_ends a.panel s a.point) _ _ count effect _ c.step_bound-budget.ensures _ _ _ _ refl ran.1 ran.0)

@@ -42,5 +42,5 @@ returns c =
     let told = row_added a.m a.k a.point a.value a.index place rows c.if-index-eq0.false c.position-place.ensures in
     let added = add_row a.m a.k a.point a.value rows a.index in
     let answer = placed place (index_of a.m a.k a.point place) in
-    rw c.word_of_lem.ensures
+    rw c.word_of.ensures
     (feeds_row a.words.now a.places.now a.count start.requires c.placed.result added a.point a.value place answer (omega arith) room c.placed.ensures.0 c.placed.ensures.1 told)

@@ -12,9 +12,7 @@ returns-in-Absent c =
     let start = c in
     let a = start.args in
     let rows = rows_of a.words.now a.places.now a.count in
-    let searched = c.entry_of in
-    let entry : entry_read searched.result ≡ entry_of a.point rows = searched.ensures in
-    let none : entry_of a.point rows ≡ absent = sym entry ∙ ap entry_read c.in-Absent.is in
+    let none : entry_of a.point rows ≡ absent = sym c.in-Absent.ensures in
     feeds_nothing a.words.now a.places.now a.count start.requires c.unknown.result _ (ended_with 7) c.unknown.ensures.0 c.unknown.ensures.1 (rw none)
 
 pub returns-in-Present : goal.returns-in-Present
@@ -23,11 +21,9 @@ returns-in-Present c =
     let start = c in
     let a = start.args in
     let rows = rows_of a.words.now a.places.now a.count in
-    let found = c.value-1.given in
-    let searched = c.entry_of in
-    let entry : entry_read searched.result ≡ entry_of a.point rows = searched.ensures in
-    let some : entry_of a.point rows ≡ present found.0.0 found.0.1.0 = sym entry ∙ ap entry_read found.1 in
-    let new = bit_xor (bit_and found.0.0 a.keep) a.flip in
+    let found = c.in-Present in
+    let some : entry_of a.point rows ≡ present found.value found.place = sym found.ensures in
+    let new = bit_xor (bit_and found.value a.keep) a.flip in
     let told : change_row a.point a.keep a.flip rows ≡ tells (with_value a.point new rows) (changed new) = rw some in
     let stored = c.with_value in
-    feeds_value a.words.now a.places.now a.count start.requires _ _ stored.new.0 a.point new (changed new) stored.ensures refl c.list_answer.ensures told
+    feeds_value a.words.now a.places.now a.count start.requires _ _ stored.new.words a.point new (changed new) stored.ensures refl c.list_answer.ensures told

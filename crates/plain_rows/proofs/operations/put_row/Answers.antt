@@ -11,11 +11,9 @@ returns-in-Present c =
     let start = c in
     let a = start.args in
     let rows = rows_of a.words.now a.places.now a.count in
-    let found = c.place-1.given in
-    let searched = c.entry_of in
-    let entry : entry_read searched.result ≡ entry_of a.point rows = searched.ensures in
-    let some : entry_of a.point rows ≡ present found.0.0 found.0.1.0 = sym entry ∙ ap entry_read found.1 in
-    let answer = placed found.0.1.0 (index_of a.m a.k a.point found.0.1.0) in
+    let found = c.in-Present in
+    let some : entry_of a.point rows ≡ present found.value found.place = sym found.ensures in
+    let answer = placed found.place (index_of a.m a.k a.point found.place) in
     let told : put_row a.m a.k a.point a.value rows ≡ tells (with_value a.point a.value rows) answer = rw some in
     let stored = c.with_value in
-    feeds_value a.words.now a.places.now a.count start.requires c.placed.result _ stored.new.0 a.point a.value answer stored.ensures c.placed.ensures.0 c.placed.ensures.1 told
+    feeds_value a.words.now a.places.now a.count start.requires c.placed.result _ stored.new.words a.point a.value answer stored.ensures c.placed.ensures.0 c.placed.ensures.1 told

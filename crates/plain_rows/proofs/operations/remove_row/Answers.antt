@@ -13,9 +13,7 @@ returns-in-Absent c =
     let start = c in
     let a = start.args in
     let rows = rows_of a.words.now a.places.now a.count in
-    let searched = c.entry_of in
-    let entry : entry_read searched.result ≡ entry_of a.point rows = searched.ensures in
-    let none : entry_of a.point rows ≡ absent = sym entry ∙ ap entry_read c.in-Absent.is in
+    let none : entry_of a.point rows ≡ absent = sym c.in-Absent.ensures in
     feeds_nothing a.words.now a.places.now a.count start.requires c.unknown.result _ (ended_with 7) c.unknown.ensures.0 c.unknown.ensures.1 (rw none)
 
 pub returns-in-Present : goal.returns-in-Present
@@ -24,13 +22,11 @@ returns-in-Present c =
     let start = c in
     let a = start.args in
     let rows = rows_of a.words.now a.places.now a.count in
-    let found = c.enum_told-in-Present-1.given in
-    let searched = c.entry_of in
-    let entry : entry_read searched.result ≡ entry_of a.point rows = searched.ensures in
-    let some : entry_of a.point rows ≡ present found.0.0 found.0.1.0 = sym entry ∙ ap entry_read found.1 in
+    let found = c.in-Present in
+    let some : entry_of a.point rows ≡ present found.value found.place = sym found.ensures in
     let removal = c.without-left in
     let left = without a.point rows in
     let told : remove_row a.m a.k a.point rows ≡ tells left (removed (largest_index a.m a.k left)) = rw some in
-    let shown : rows_of removal.new.0 removal.new.1.0 removal.result ≡ left = removal.ensures.shown in
+    let shown : rows_of removal.new.words removal.new.places removal.result ≡ left = removal.ensures.shown in
     let largest : c.largest_index-reach.result ≡ largest_index a.m a.k left = rw (← shown) c.largest_index-reach.ensures in
-    feeds_without a.words.now a.places.now a.count start.requires _ _ removal.new.0 removal.new.1.0 removal.result a.point (removed (largest_index a.m a.k left)) removal.ensures refl (c.list_answer.ensures ∙ ap (λ (i : ℕ). list_answer (removed i)) largest) told
+    feeds_without a.words.now a.places.now a.count start.requires _ _ removal.new.words removal.new.places removal.result a.point (removed (largest_index a.m a.k left)) removal.ensures refl (c.list_answer.ensures ∙ ap (λ (i : ℕ). list_answer (removed i)) largest) told

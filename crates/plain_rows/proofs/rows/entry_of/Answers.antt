@@ -16,7 +16,7 @@ returns-then-point_of-point c =
     let a = c.args in
     let some : 0 < l.i = omega arith in
     let same = sym c.point_of.ensures ∙ c.if-point_of-point.true in
-    ap (λ (v : ℕ). present v (get_or a.places.now (l.i - 1) 0)) c.value_of_lem.ensures
+    ap (λ (v : ℕ). present v (get_or a.places.now (l.i - 1) 0)) c.value_of.ensures
     ∙ sym (entry_newest a.words.now a.places.now l.i a.point some same)
     ∙ l.invariant.1
 

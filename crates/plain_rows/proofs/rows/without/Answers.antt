@@ -16,19 +16,22 @@ loop-i-preserved c =
     let l = c.loop-i in
     let a = c.args in
     let same = c.point_of.ensures in
-    elim c.if-point_of-point.branch [ then-point_of-point w ↦ (
-      omega arith,
-      omega (arith, w.4),
-      ap length w.2 ∙ simp length-set l.invariant.2,
-      ap length w.3 ∙ simp length-set l.invariant.3,
-      rw (w.2, w.3, w.4) (removes_kept a.words.now a.places.now a.point l.words l.places l.i l.left l.invariant.4 (omega arith) (omega arith) (λ e. w.if-point_of-point.true (same ∙ e))),
-    ) | else-point_of-point w ↦ (
-      omega arith,
-      omega (arith, w.3),
-      ap length w.1 ∙ l.invariant.2,
-      ap length w.2 ∙ l.invariant.3,
-      rw (w.1, w.2, w.3) (removes_gone a.words.now a.places.now a.point l.words l.places l.i l.left l.invariant.4 (sym same ∙ w.if-point_of-point.false)),
-    ) ]
+    elim c.if-point_of-point.branch [
+      | then-point_of-point w ↦ (
+        omega arith,
+        omega (arith, w.left-is),
+        ap length w.words-is ∙ simp length-set l.invariant.2,
+        ap length w.places-is ∙ simp length-set l.invariant.3,
+        rw (w.words-is, w.places-is, w.left-is) (removes_kept a.words.now a.places.now a.point l.words l.places l.i l.left l.invariant.4 (omega arith) (omega arith) (λ e. w.if-point_of-point.true (same ∙ e))),
+      )
+      | else-point_of-point w ↦ (
+        omega arith,
+        omega (arith, w.left-is),
+        ap length w.words-is ∙ l.invariant.2,
+        ap length w.places-is ∙ l.invariant.3,
+        rw (w.words-is, w.places-is, w.left-is) (removes_gone a.words.now a.places.now a.point l.words l.places l.i l.left l.invariant.4 (sym same ∙ w.if-point_of-point.false)),
+      )
+    ]
 
 pub returns : goal.returns
 returns c =

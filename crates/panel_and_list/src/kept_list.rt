@@ -25,6 +25,7 @@ use record::Record;
 use writer::writer_access;
 
 // The call feeds the list. `fed`: the writer's operation has fed it before.
+#[tactic(auto, unfolding(crate::specs::Kept::feeds_after))]
 pub(crate) fn feeds_now(panel: Record, fed: bool, answer: CallAnswer, call: Call) -> bool
     ensures { (frame : List ℕ) → result ≡ feeds_after panel fed (paper_call answer) (role_of call frame (paper_call answer)) }
 {
@@ -86,6 +87,7 @@ fn stores_slot(access: WriterAccess) -> bool
 }
 
 // The number of rows after the call, which feeds the list or does not.
+#[tactic(auto, unfolding(crate::specs::Kept::rows_after))]
 pub(crate) fn rows_now(
     words: &mut [u64],
     places: &mut [u32],
@@ -104,6 +106,7 @@ pub(crate) fn rows_now(
 }
 
 // The notes after the call.
+#[tactic(auto, unfolding(crate::specs::Kept::fed_after, history::specs::Log::role_of, history::specs::Log::writing_after))]
 pub(crate) fn notes_now(
     notes: Notes,
     feeds: bool,
@@ -155,6 +158,7 @@ fn turned(notes: Notes, feeds: bool, answer: CallAnswer) -> Notes
 }
 
 // An operation that has been started is noted; a refused start leaves the notes.
+#[tactic(auto, unfolding(crate::specs::Kept::notes_begun))]
 fn begun(notes: Notes, answer: CallAnswer, operation: Operation) -> Notes
     ensures { result ≡ notes_begun notes (is_started (paper_call answer)) operation }
 {
@@ -168,6 +172,7 @@ fn begun(notes: Notes, answer: CallAnswer, operation: Operation) -> Notes
 }
 
 // A step of the operation feeds the list or does not; of one that has ended nothing is noted.
+#[tactic(auto, unfolding(crate::specs::Kept::notes_stepped))]
 fn stepped(notes: Notes, feeds: bool, answer: CallAnswer) -> Notes
     ensures { result ≡ notes_stepped notes feeds (has_ended (paper_call answer)) }
 {
@@ -185,6 +190,7 @@ fn stepped(notes: Notes, feeds: bool, answer: CallAnswer) -> Notes
 }
 
 // "a started command as its change": the change of the command that the frame is.
+#[tactic(auto, unfolding(history::specs::Log::as_change))]
 fn commanded(frame: &[u8]) -> Operation
     ensures { frame_refusal frame.now ≡ 0 → operation_of result ≡ as_change (sent_in frame.now) }
 {

@@ -1,4 +1,6 @@
 // A panel with the plain list of the claim beside it: calls carried out on both.
+#![tactic(auto)]
+
 ghost use Rattle.std.specs.Prelude.{◌≡◌};
 ghost use Rattle.panel_and_list.specs.Kept.{opened_state, CallOnBoth};
 
@@ -36,6 +38,7 @@ pub struct Carried {
 }
 
 // A panel of which nothing was asked yet: the list has no row.
+#[tactic(auto, unfolding(crate::specs::Kept::opened_state))]
 pub fn opened(panel: Record) -> PanelState
     ensures { result ≡ opened_state panel }
 {

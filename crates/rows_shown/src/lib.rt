@@ -1,4 +1,6 @@
 // The plain list's rows beside the slots.
+#![tactic(auto)]
+
 ghost use Rattle.std.specs.Prelude.{ℕ, cond, List, ◌≡◌, length, get_or};
 ghost use Rattle.plain_list.specs.PlainList.{is_place, Shows};
 ghost use Rattle.plain_rows.specs.Rows.{rows_of};
@@ -17,6 +19,7 @@ pub fn do_show(slots: &[u64], words: &[u64], places: &[u32], rows: usize) -> boo
 }
 
 // Each row's word stands at its place.
+#[tactic(auto, unfolding(plain_rows::specs::Rows::rows_of, crate::specs::Verdict::rows_stand))]
 fn do_rows_stand(slots: &[u64], words: &[u64], places: &[u32], rows: usize) -> bool
     ensures { result ≡ rows_stand slots.now (rows_of words.now places.now rows) }
 {
@@ -30,6 +33,7 @@ fn do_rows_stand(slots: &[u64], words: &[u64], places: &[u32], rows: usize) -> b
     stand
 }
 
+#[tactic(auto, unfolding(crate::specs::Verdict::stands))]
 fn stands(slots: &[u64], place: usize, word: u64) -> bool
     ensures { result ≡ standsThere slots.now place word }
 {
@@ -37,6 +41,7 @@ fn stands(slots: &[u64], place: usize, word: u64) -> bool
 }
 
 // Each slot that is no row's place is 0.
+#[tactic(auto, unfolding(crate::specs::Verdict::others_empty))]
 fn are_others_empty(slots: &[u64], places: &[u32], rows: usize) -> bool
     ensures { (words : List ℕ) → result ≡ others_empty slots.now (rows_of words places.now rows) (length slots.now) }
 {
@@ -51,6 +56,7 @@ fn are_others_empty(slots: &[u64], places: &[u32], rows: usize) -> bool
 }
 
 // Some row's place.
+#[tactic(auto, unfolding(plain_list::specs::PlainList::is_place, plain_rows::specs::Rows::rows_of))]
 fn is_place(places: &[u32], rows: usize, place: usize) -> bool
     ensures { (words : List ℕ) → result ≡ is_place place (rows_of words places.now rows) }
 {
@@ -64,6 +70,7 @@ fn is_place(places: &[u32], rows: usize, place: usize) -> bool
 }
 
 // The word of the latest row with that place; 0 if there is none.
+#[tactic(auto, unfolding(plain_rows::specs::Rows::rows_of, crate::specs::Verdict::word_listed))]
 pub fn word_listed(words: &[u64], places: &[u32], rows: usize, place: usize) -> u64
     ensures { result ≡ word_listed place (rows_of words.now places.now rows) }
 {

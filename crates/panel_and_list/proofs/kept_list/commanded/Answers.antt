@@ -1,0 +1,19 @@
+use mathlib.Core.Path.{sym, ap, ◌∙◌}
+use Rattle.frame.specs.Answers.{paper_read}
+use Rattle.history.specs.Log.{as_change}
+use Rattle.panel_and_list.proofs.KeptLaws.{frame_sent, frame_not_refused}
+use Rattle.panel_and_list.proofs.kept_list.commanded.Goals as goal
+
+pub returns-in-Frame : goal.returns-in-Frame
+unfolding as_change
+returns-in-Frame c allowed =
+    let bytes = c.args.frame.now in
+    let given = c.fields-1.given in
+    c.change_of.ensures
+    ∙ ap as_change (frame_sent bytes allowed given.0.0 given.0.1.0 (sym (ap paper_read given.1) ∙ c.read.ensures))
+
+pub returns-in-Refused : goal.returns-in-Refused
+returns-in-Refused c allowed =
+    let bytes = c.args.frame.now in
+    let given = c.enum_told-1.given in
+    absurd (frame_not_refused bytes allowed given.0.0 (sym (ap paper_read given.1) ∙ c.read.ensures))

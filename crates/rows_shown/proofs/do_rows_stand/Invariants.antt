@@ -1,0 +1,11 @@
+use Prim.Native.Nat.{◌-◌, ◌≤◌}
+use mathlib.Core.Path.{◌≡◌}
+use Rattle.plain_rows.specs.Rows.{rows_of}
+use Rattle.rows_shown.specs.Verdict.{rows_stand}
+use Rattle.rows_shown.proofs.do_rows_stand.Given as goal
+
+abbrev pub invariant-loop-row : goal.invariant-loop-row
+invariant-loop-row l = (l.row ≤ l.rows) × (l.stand ≡ rows_stand l.slots (rows_of l.words l.places l.row))
+
+abbrev pub decreases-loop-row : goal.decreases-loop-row
+decreases-loop-row l = l.rows - l.row

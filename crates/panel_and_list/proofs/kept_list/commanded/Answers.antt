@@ -8,12 +8,10 @@ pub returns-in-Frame : goal.returns-in-Frame
 unfolding as_change
 returns-in-Frame c allowed =
     let bytes = c.args.frame.now in
-    let given = c.fields-1.given in
     c.change_of.ensures
-    ∙ ap as_change (frame_sent bytes allowed given.0.0 given.0.1.0 (sym (ap paper_read given.1) ∙ c.read.ensures))
+    ∙ ap as_change (frame_sent bytes allowed c.in-Frame.field-0 c.in-Frame.fields c.in-Frame.ensures)
 
 pub returns-in-Refused : goal.returns-in-Refused
 returns-in-Refused c allowed =
     let bytes = c.args.frame.now in
-    let given = c.enum_told-1.given in
-    absurd (frame_not_refused bytes allowed given.0.0 (sym (ap paper_read given.1) ∙ c.read.ensures))
+    absurd (frame_not_refused bytes allowed c.in-Refused.field-0 c.in-Refused.ensures)

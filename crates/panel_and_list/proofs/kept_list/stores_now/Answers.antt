@@ -13,5 +13,5 @@ returns c frame =
     ∙ ap₂ both c.is_writer_step.ensures
     (c.both_hold-stores.ensures
     ∙ ap₂ both (ap not c.is_refused.ensures)
-    (c.does_store_slot.ensures ∙ ap stores_slot c.writer_access-access.ensures))
+    (c.stores_slot.ensures ∙ ap stores_slot c.writer_access-access.ensures))
     ∙ stores_by_step a.panel (paper_call a.answer) frame a.call

@@ -1,8 +1,6 @@
-use Prim.Native.Nat.{◌-◌}
 use mathlib.Core.Path.{◌∙◌, sym, refl}
 use native.Mathlib.Omega.{arith}
 use borrow.Author.Rules.{rules}
-use borrow.Author.Tests.{not-true, not-false}
 use Rattle.record.specs.Parts.{unheard_station}
 use Rattle.record_ranges.specs.Ranges.{station_in_range, stations_in_range}
 use Rattle.record_ranges.proofs.All.{all_passes, all_fails, all_done}

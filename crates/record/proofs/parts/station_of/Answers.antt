@@ -3,7 +3,7 @@ use mathlib.Core.Path.{◌≡◌, sym, ◌∙◌}
 use native.Mathlib.Omega.{arith}
 use lib.ListN.{length}
 use Rattle.record.specs.Parts.{unheard_station, station_of}
-use Rattle.record.proofs.Numbered.{mapped_length, numbered_zero, numbered_past, numbered_at}
+use Rattle.record.proofs.Numbered.{numbered_zero, numbered_past, numbered_at}
 use Rattle.record.proofs.parts.station_of.Goals as goal
 
 pub returns-then-station-eq0 : goal.returns-then-station-eq0

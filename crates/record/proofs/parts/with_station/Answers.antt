@@ -3,7 +3,7 @@ use mathlib.Core.Path.{◌≡◌, sym, ap}
 use native.Mathlib.Omega.{arith}
 use lib.ListN.{length}
 use Rattle.record.specs.Parts.{with_stations, with_station}
-use Rattle.record.proofs.Numbered.{mapped_length, replaced_zero, replaced_past, replaced_at}
+use Rattle.record.proofs.Numbered.{replaced_zero, replaced_past, replaced_at}
 use Rattle.record.proofs.parts.with_station.Goals as goal
 
 pub returns-then-station-eq0 : goal.returns-then-station-eq0

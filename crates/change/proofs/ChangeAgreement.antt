@@ -7,7 +7,6 @@ use mathlib.Core.List.{List}
 use native.Mathlib.Omega.{arith}
 use lib.Bits.{bit_and, and_le_l, xor_lt}
 use lib.Dec.{eqb}
-use Rattle.conditions.specs.Conditions.{both}
 use Rattle.conditions.proofs.ConditionLaws.{both_left, both_right}
 use Rattle.hash.specs.Position.{position_of}
 use Rattle.slot_words.specs.Word.{word_of}

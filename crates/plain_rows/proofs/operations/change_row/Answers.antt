@@ -1,8 +1,8 @@
-use mathlib.Core.Path.{◌≡◌, ◌∙◌, refl, sym, ap}
+use mathlib.Core.Path.{◌≡◌, refl, sym}
 use lib.Bits.{bit_and, bit_xor}
 use Rattle.answers.specs.Answers.{changed, ended_with}
 use Rattle.plain_list.specs.PlainList.{absent, present, entry_of, with_value, tells, change_entry, change_row}
-use Rattle.plain_rows.specs.Rows.{rows_of, entry_read}
+use Rattle.plain_rows.specs.Rows.{rows_of}
 use Rattle.plain_rows.proofs.FedLaws.{feeds_nothing, feeds_value}
 use Rattle.plain_rows.proofs.operations.change_row.Goals as goal
 

@@ -1,7 +1,7 @@
-use mathlib.Core.Path.{◌≡◌, ◌∙◌, sym, ap}
+use mathlib.Core.Path.{◌≡◌, sym}
 use Rattle.answers.specs.Answers.{placed}
 use Rattle.plain_list.specs.PlainList.{present, entry_of, with_value, index_of, tells, put_entry, put_row}
-use Rattle.plain_rows.specs.Rows.{rows_of, entry_read}
+use Rattle.plain_rows.specs.Rows.{rows_of}
 use Rattle.plain_rows.proofs.FedLaws.{feeds_value}
 use Rattle.plain_rows.proofs.operations.put_row.Goals as goal
 

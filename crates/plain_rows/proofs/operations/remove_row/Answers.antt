@@ -2,7 +2,7 @@ use Prim.Native.Nat.{ℕ}
 use mathlib.Core.Path.{◌≡◌, ◌∙◌, refl, sym, ap}
 use Rattle.answers.specs.Answers.{removed, ended_with}
 use Rattle.plain_list.specs.PlainList.{absent, present, entry_of, without, largest_index, tells, remove_entry, remove_row}
-use Rattle.plain_rows.specs.Rows.{rows_of, entry_read}
+use Rattle.plain_rows.specs.Rows.{rows_of}
 use Rattle.plain_rows.specs.Fed.{list_answer}
 use Rattle.plain_rows.proofs.FedLaws.{feeds_nothing, feeds_without}
 use Rattle.plain_rows.proofs.operations.remove_row.Goals as goal

@@ -1,4 +1,4 @@
-use Prim.Native.Nat.{◌-◌, ◌≤◌}
+use Prim.Native.Nat.{◌≤◌}
 use mathlib.Core.Path.{◌≡◌}
 use Rattle.plain_list.specs.PlainList.{entry_of}
 use Rattle.plain_rows.specs.Rows.{rows_of}

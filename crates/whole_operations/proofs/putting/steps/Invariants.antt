@@ -12,7 +12,7 @@ use Rattle.whole_operations.proofs.WholeLaws.{OnTheWay}
 use Rattle.whole_operations.proofs.putting.steps.Given as goal
 
 abbrev pub invariant-loop-left : goal.invariant-loop-left
-invariant-loop-left l =     (length l.slots ≡ length l.initial.slots)
+invariant-loop-left l = (length l.slots ≡ length l.initial.slots)
     × OnTheWay writer_step AtWork (outcome (with_writer l.panel l.initial.work) l.initial.slots (step_answer l.before (paper_progress l.initial.progress))) l.budget l.left
     (outcome (with_writer (counted (with_reach l.panel l.reach) l.index) l.work) l.slots (step_answer l.steps (paper_progress l.progress)))
     × (1 ≤ l.left → l.index ≡ 0)

@@ -51,8 +51,8 @@ loop-left-preserved c =
     let goes = l.invariant.1.goes some in
     let updates : c.match-update.held ≡ updated l.held c.writer_advance-next.result.update =
     elim c.match-update.branch [
-      in-Nothing w ↦ w.held-is ∙ sym (ap (updated l.held) w.in-Nothing.is)
-    | in_default w ↦ w.held-is ∙ w.with_update-held.ensures
+      | in-Nothing w ↦ w.held-is ∙ sym (ap (updated l.held) w.in-Nothing.is)
+      | in_default w ↦ w.held-is ∙ w.with_update-held.ensures
     ] in
     let takes =
     step_beside l.held c.match-update.held l.slots _ l.work made.result (step_answer l.steps (paper_progress l.progress)) _ _ _ _ (paper_effect advances.result) l.invariant.1.holds goes

@@ -1,5 +1,5 @@
 # run: proves and builds the bench program and what it rests on, and runs it on its sample input.
-# test: the gate, all tests and proofs from nothing.
+# test: the gate, all tests and proofs.
 # bench: the frame library, single calls and the bench program, each beside independent Rust programs,
 #        in one run; the memory that a panel and the bench program take.
 # fuzz: the frame library and the programs' inputs, FUZZ_SECONDS (60) each; not part of the gate.
@@ -7,20 +7,18 @@
 .PHONY: run test bench fuzz check-times
 
 run:
-	rt check bench
-	target/bin/bench <crates/bench/stdin
+	host/build bench
+	crates/bench/out/bench <crates/bench/stdin
 
 test:
 	.ci/run
 
 bench:
-	rt staticlib frame
-	rt check step_speed bench
+	host/build frame step_speed bench
 	host/speed/run
 
 fuzz:
-	rt staticlib frame
-	rt check bench orders
+	host/build frame bench orders
 	host/fuzz/run
 
 check-times:

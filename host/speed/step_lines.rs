@@ -9,7 +9,7 @@ pub const SIZES: [(char, u32); 2] = [('S', 16), ('L', 4096)];
 pub fn printed(program: &str, line: &str) -> Result<String, String> {
     let printed = child_program::run(program, line.as_bytes());
     let printed = printed.map_err(|error| {
-        format!("{program}: {error}; run from the repository root, after rt check step_speed")
+        format!("{program}: {error}; run from the repository root, after host/build step_speed")
     })?;
     String::from_utf8(printed).map_err(|_| format!("{program}: no text"))
 }

@@ -1,5 +1,5 @@
 // The frame reader and writer for firmware in C, as include/jizkorma.h declares them: plain numbers
-// and byte buffers. Each returns 0 or the refusal's number.
+// and byte buffers. Each returns 0 or the refusal's number. Crate frame_c exports them.
 ghost use Rattle.std.specs.Prelude.{◌≡◌};
 ghost use Rattle.frame.specs.Answers.{fields_of, reading, writing};
 ghost use Rattle.frame.specs.Frames.{read_frame, write_frame};

@@ -4,15 +4,19 @@
 //! size. Exit status 1 for code that cannot be followed: recursion, calls by pointer, a stack pointer
 //! set otherwise. The C library's own frames are not counted.
 
-use std::collections::HashMap;
+use std::collections::{BTreeMap, BTreeSet, HashMap};
 use std::io::stdin;
+use std::ops::Range;
 use std::process::ExitCode;
 
 /// What a call pushes.
 const RETURN_ADDRESS: i64 = 8;
 
-/// What `main` lends to what it calls (crates/bench/src/main.rt): the slots of the largest panel, and a
-/// buffer each for input and output. Inlining has brought them together on its frame.
+/// Where the program's own code begins. The library's start, which calls it, is not counted.
+const ROOT: &str = "bench::main";
+
+/// What `main` and what it calls first lend to the rest (crates/bench/src/main.rt): the slots of the largest
+/// panel, and a buffer each for input and output.
 const SLOTS: i64 = 4096 * 8;
 const BUFFERS: i64 = 2 * 65536;
 
@@ -24,14 +28,14 @@ struct Function {
     deepest: i64,
     /// The depth before the pops and additions that stand directly before this instruction.
     before: Option<i64>,
-    /// Where the loop ends that lowers the stack pointer page by page, while it is set up.
+    /// Where the loop ends that lowers the stack pointer part by part, while it is set up.
     touched: Option<i64>,
     /// The functions called, with the depth there.
-    calls: Vec<(String, i64)>,
+    calls: Vec<(u64, i64)>,
 }
 
 impl Function {
-    fn follow(&mut self, instruction: &str) -> Result<(), String> {
+    fn follow(&mut self, instruction: &str, own: Range<u64>) -> Result<(), String> {
         let (name, operands) = instruction.split_once(' ').unwrap_or((instruction, ""));
         let operands = operands.trim();
         let number = constant(operands);
@@ -43,9 +47,11 @@ impl Function {
             ("add", Some("%rsp"), Some(bytes)) => self.lower(before, -bytes)?,
             ("mov", ..) if operands == "%rsp,%r11" => self.touched = Some(self.depth),
             ("sub", Some("%r11"), Some(bytes)) => self.touched = self.touched.map(|d| d + bytes),
+            ("lea", Some("%r11"), _) => self.touched = lowered(operands).map(|d| self.depth + d),
             ("cmp", ..) if operands == "%r11,%rsp" => self.touch()?,
             ("ret", ..) => self.end(before)?,
-            ("call" | "jmp", ..) => self.call(name, operands)?,
+            ("call", ..) => self.call(name, operands, own)?,
+            _ if name.starts_with('j') => self.call(name, operands, own)?,
             ("cmp" | "test", ..) => {}
             ("leave", ..) | (_, Some("%rsp"), _) => return Err(instruction.to_string()),
             _ => self.use_below(operands),
@@ -66,7 +72,7 @@ impl Function {
         Ok(())
     }
 
-    /// The end of the loop that lowers the stack pointer page by page.
+    /// The end of the loop that lowers the stack pointer part by part.
     fn touch(&mut self) -> Result<(), String> {
         let touched = self.touched.take();
         let touched = touched.ok_or("a stack pointer compared with an unknown one")?;
@@ -84,15 +90,13 @@ impl Function {
         Ok(())
     }
 
-    /// A jump to another function's start is a call too. Other jumps stay in the function.
-    fn call(&mut self, name: &str, operands: &str) -> Result<(), String> {
-        let target = operands.split_once('<').map(|(_, target)| target);
-        let target = target.and_then(|target| target.strip_suffix('>'));
-        match (name, target) {
-            ("jmp", None) => {}
-            ("jmp", Some(target)) if target.contains('+') => {}
-            (_, Some(target)) => self.calls.push((target.to_string(), self.depth)),
-            (_, None) => return Err("a call by pointer".to_string()),
+    /// A jump out of the function is a call too.
+    fn call(&mut self, name: &str, operands: &str, own: Range<u64>) -> Result<(), String> {
+        match (name, target(operands)) {
+            ("call", None) => return Err("a call by pointer".to_string()),
+            ("call", Some(called)) => self.calls.push((called, self.depth)),
+            (_, Some(called)) if !own.contains(&called) => self.calls.push((called, self.depth)),
+            _ => {}
         }
         Ok(())
     }
@@ -115,35 +119,68 @@ fn constant(operands: &str) -> Option<i64> {
     Some(bits as i64)
 }
 
-/// Each function's instructions.
-type Code = HashMap<String, Vec<String>>;
+/// How far below the stack pointer an address lies.
+fn lowered(operands: &str) -> Option<i64> {
+    let digits = operands.strip_prefix("-0x")?.strip_suffix("(%rsp),%r11")?;
+    i64::from_str_radix(digits, 16).ok()
+}
 
+/// The program's instructions by their addresses, and where its functions begin, by name and by address.
+#[derive(Default)]
+struct Code {
+    instructions: BTreeMap<u64, String>,
+    named: HashMap<String, u64>,
+    starts: BTreeSet<u64>,
+}
+
+impl Code {
+    /// A function's name, or where it begins.
+    fn name(&self, start: u64) -> String {
+        let named = self.named.iter().find(|(_, address)| **address == start);
+        named.map_or(format!("{start:x}"), |(name, _)| name.clone())
+    }
+}
+
+/// The address that a call or a jump names.
+fn target(operands: &str) -> Option<u64> {
+    let (address, _) = operands.split_once(" <")?;
+    u64::from_str_radix(address, 16).ok()
+}
+
+/// Not every function has a name: one begins wherever a call leads.
 fn read_code(lines: impl Iterator<Item = String>) -> Code {
-    let mut code = Code::new();
-    let mut name = String::new();
+    let mut code = Code::default();
     for line in lines {
-        if let Some(head) = line.strip_suffix(">:") {
-            name = head
-                .split_once('<')
-                .map_or(head, |(_, name)| name)
-                .to_string();
-        } else if let Some((_, instruction)) = line.split_once(":\t") {
-            let instruction = instruction.split('#').next().unwrap_or_default().trim();
-            let instructions = code.entry(name.clone()).or_default();
-            instructions.push(instruction.to_string());
+        let head = line.strip_suffix(">:").and_then(|h| h.split_once(" <"));
+        let (place, words) = head.or(line.split_once(":\t")).unwrap_or_default();
+        let Ok(address) = u64::from_str_radix(place.trim(), 16) else {
+            continue;
+        };
+        if head.is_some() {
+            code.named.insert(words.to_string(), address);
+            code.starts.insert(address);
+        } else {
+            // A remark names what lies at a distance: a table of jumps behind a function's code, too.
+            let (instruction, far) = words.split_once(" # ").unwrap_or((words, ""));
+            let instruction = instruction.trim();
+            let called = instruction.strip_prefix("call ").unwrap_or(far);
+            code.starts.extend(target(called.trim()));
+            code.instructions.insert(address, instruction.to_string());
         }
     }
     code
 }
 
-fn follow(code: &Code, name: &str) -> Result<Function, String> {
-    let instructions = code
-        .get(name)
-        .ok_or(format!("there is no function {name}"))?;
+/// A function ends where the next begins, or where the bytes that fill up to it do.
+fn follow(code: &Code, start: u64) -> Result<Function, String> {
+    let next = code.starts.range(start + 1..).next();
+    let next = next.copied().unwrap_or(u64::MAX);
+    let filled = code.instructions.range(start..next);
+    let filled = filled.filter(|(_, instruction)| *instruction == "int3");
+    let end = filled.map(|(address, _)| *address).next().unwrap_or(next);
     let mut function = Function::default();
-    for instruction in instructions {
-        let followed = function.follow(instruction);
-        followed.map_err(|reason| format!("{name}: {reason}"))?;
+    for instruction in code.instructions.range(start..end).map(|(_, each)| each) {
+        function.follow(instruction, start..end)?;
     }
     Ok(function)
 }
@@ -160,22 +197,23 @@ fn total(chain: &[Frame]) -> i64 {
 }
 
 /// The deepest chain of calls that goes on with this function.
-fn deepest_chain(code: &Code, callers: &[Frame], name: &str) -> Result<Vec<Frame>, String> {
+fn deepest_chain(code: &Code, callers: &[Frame], start: u64) -> Result<Vec<Frame>, String> {
+    let name = code.name(start);
     if callers.iter().any(|caller| caller.name == name) {
         return Err(format!("{name} calls itself"));
     }
-    let function = follow(code, name)?;
+    let function = follow(code, start).map_err(|reason| format!("{name}: {reason}"))?;
     let with = |depth| {
         let frame = Frame {
-            name: name.to_string(),
+            name: name.clone(),
             bytes: RETURN_ADDRESS + depth,
         };
         [callers, &[frame]].concat()
     };
     let mut deepest = with(function.deepest);
-    for (callee, depth) in &function.calls {
-        if !callee.ends_with("@plt") {
-            let chain = deepest_chain(code, &with(*depth), callee)?;
+    for (callee, depth) in function.calls {
+        if !code.name(callee).ends_with("@plt") {
+            let chain = deepest_chain(code, &with(depth), callee)?;
             if total(&chain) > total(&deepest) {
                 deepest = chain;
             }
@@ -186,20 +224,20 @@ fn deepest_chain(code: &Code, callers: &[Frame], name: &str) -> Result<Vec<Frame
 
 fn report() -> Result<(), String> {
     let code = read_code(stdin().lines().map_while(Result::ok));
-    let chain = deepest_chain(&code, &[], "main")?;
-    let own = chain[0].bytes - SLOTS - BUFFERS;
-    if own < 0 {
-        return Err("the slots and the buffers are not on the frame of main".to_string());
+    let start = code.named.get(ROOT).ok_or(format!("there is no {ROOT}"))?;
+    let chain = deepest_chain(&code, &[], *start)?;
+    let rest = total(&chain) - SLOTS - BUFFERS;
+    if rest < 0 {
+        return Err("the slots and the buffers are not on the stack".to_string());
     }
     println!(
-        "stack of the bench program: at most {} bytes, {} of them below main",
-        total(&chain),
-        total(&chain[1..])
+        "stack of the bench program: at most {} bytes",
+        total(&chain)
     );
     for Frame { name, bytes } in &chain {
         println!("  {bytes:>7} {name}");
     }
-    println!("  of main's {SLOTS} are the slots, {BUFFERS} its two buffers, {own} its own");
+    println!("  {SLOTS} are the slots, {BUFFERS} the two buffers, {rest} all else");
     Ok(())
 }
 

@@ -15,7 +15,7 @@ use std::process::{Command, ExitCode, Stdio};
 use step_lines::{calls, printed, SIZES};
 use timing::timed;
 
-const PROVED: &str = "target/bin/step_speed";
+const PROVED: &str = "crates/step_speed/out/step_speed";
 const RUST: &str = "target/host/expected_step_speed";
 const LOG: &str = "target/host/callgrind.log";
 const ROUNDS: usize = 7;

@@ -1,5 +1,4 @@
 use Rattle.std.proofs.Common.{sym, ◌∙◌, arith}
-use borrow.Author.Tests.{not-true, not-false}
 use Rattle.circle.proofs.HighestDigit.{shifted_some}
 use Rattle.circle.proofs.MarksLaws.{place_within, due_outside, cut_leads, all_leads, due_around, due_ahead}
 use Rattle.circle.proofs.party_due.Goals as goal

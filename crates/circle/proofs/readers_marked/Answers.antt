@@ -1,4 +1,4 @@
-use Rattle.std.proofs.Common.{◌-◌, sym, refl, ◌∙◌, arith, rules}
+use Rattle.std.proofs.Common.{sym, refl, ◌∙◌, arith, rules}
 use Rattle.circle.proofs.MarksLaws.{marked_next, marked_done}
 use Rattle.circle.proofs.readers_marked.Goals as goal
 

@@ -1,5 +1,5 @@
 use mathlib.Core.Path.{◌≡◌, sym, ◌∙◌}
-use mathlib.Core.Bool.{true, false}
+use mathlib.Core.Bool.{false}
 use Rattle.refusal.specs.Judging.{refuse_if}
 use Rattle.answers.specs.Answers.{unless_refused}
 use Rattle.record.specs.Idle.{is_writer_idle}

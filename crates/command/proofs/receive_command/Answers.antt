@@ -1,6 +1,5 @@
-use mathlib.Core.Path.{sym, ap, ◌∙◌}
+use mathlib.Core.Path.{ap, ◌∙◌}
 use borrow.Author.Tests.{ne_eqb}
-use Rattle.frame.specs.Answers.{paper_read}
 use Rattle.command.specs.declared.Sent.{Sent}
 use Rattle.command.proofs.FrameTaken.{command_taken, refusal_taken}
 use Rattle.command.proofs.receive_command.Goals as goal

@@ -1,4 +1,4 @@
-use Prim.Native.Nat.{ℕ, ◌+◌, ◌-◌}
+use Prim.Native.Nat.{ℕ, ◌+◌}
 use mathlib.Core.Path.{refl, ◌∙◌, sym, ap, subst}
 use native.Mathlib.Omega.{arith}
 use Rattle.search.specs.declared.SearchAnswer.TheVariants.{Unknown}

@@ -1,6 +1,8 @@
 // The calls of document 01 and N1's turn, on a record that stays where the main loop keeps it. Each takes out
 // what it needs, calls a function by value, and stores back what that hands back: a refused call stores again
 // what was there. Only the turn has a branch. A command's start takes out the whole record.
+#![tactic(auto)]
+
 ghost use Rattle.std.specs.Prelude.{◌≡◌};
 ghost use Rattle.answers.specs.Answers.{paper_start, paper_entry, paper_step, paper_turn, outcome};
 ghost use Rattle.reader_step.specs.Reader.{step_reader};
@@ -22,7 +24,7 @@ use circle::place_after;
 use dispatcher::turn_answer;
 use reader_starts::{lookup_started, walk_started};
 use reader_step::step_work;
-use record::Record;
+use record::{Reader, Record};
 use record::parts::{numbered_place, reader_place};
 use writer::{change_started, put_started, removal_started};
 
@@ -174,6 +176,8 @@ fn readers_turn(panel: &mut Record, slots: &[u64], due: u32) -> TurnAnswer
 pub fn turn(panel: &mut Record, slots: &mut [u64]) -> TurnAnswer
     ensures { outcome panel.new slots.new (paper_turn result) ≡ take_turn panel.old slots.old }
 {
+    let readers: &[Reader] = &panel.readers;
+    prove!(readers.len() == 16);
     let due = due_at(panel, slots.len());
     if due == 0 {
         writers_turn(panel, slots)

@@ -1,0 +1,46 @@
+use Rattle.std.proofs.Common.{◌<◌, ltb, set, rules, arith, ap, ◌∙◌}
+use Rattle.record.specs.Parts.{work_of, with_readers, with_work, with_place, numbered_place}
+use Rattle.record.proofs.Numbered.{place_below}
+use Rattle.answers.specs.Answers.{outcome}
+use Rattle.reader_step.specs.Reader.{after_step, step_judged}
+use Rattle.reader_step.proofs.StepWork.{step_by_work}
+use Rattle.circle.specs.Marks.{place_after}
+use Rattle.dispatcher.specs.Due.{turned_by, reader_turn}
+use Rattle.in_place.proofs.readers_turn.Goals as goal
+
+pub offset_bounds-panel-at : goal.offset_bounds-panel-at
+offset_bounds-panel-at c =
+    let below : c.numbered_place-at.result < 16 = rw c.numbered_place-at.ensures (place_below 16 _ (omega arith)) in
+    search rules
+
+pub bounds-panel-at : goal.bounds-panel-at
+bounds-panel-at c = rw c.numbered_place-at.ensures (place_below 16 _ (omega arith))
+
+pub overflow_cast-at : goal.overflow_cast-at
+overflow_cast-at c =
+    let below : c.numbered_place-at.result < 16 = rw c.numbered_place-at.ensures (place_below 16 _ (omega arith)) in
+    search rules
+
+pub offset_bounds-panel-at-2 : goal.offset_bounds-panel-at-2
+offset_bounds-panel-at-2 c =
+    let below : c.numbered_place-at.result < 16 = rw c.numbered_place-at.ensures (place_below 16 _ (omega arith)) in
+    search rules
+
+pub bounds-panel-at-2 : goal.bounds-panel-at-2
+bounds-panel-at-2 c = rw c.numbered_place-at.ensures (place_below 16 _ (omega arith))
+
+pub returns : goal.returns
+unfolding reader_turn after_step work_of with_work with_readers with_place
+returns c =
+    let a = c.args in
+    let p = a.panel.now in
+    let s = a.slots.now in
+    let at = c.numbered_place-at in
+    let next = c.step_work-next in
+    let placed = with_place p (place_after p.place a.due) in
+    let stored = with_readers p (set p.readers at.result next.result.reader) in
+    (λ j. outcome (with_place stored (c.place_after-panel.ensures j)) s (c.turn_answer.ensures j))
+    ∙ ap (turned_by a.due)
+    (ap (after_step placed s at.result) next.ensures
+    ∙ step_by_work placed s at.result (ltb a.due 18)
+    ∙ ap (step_judged (ltb a.due 18) placed s) at.ensures)

@@ -1,0 +1,34 @@
+use Rattle.std.proofs.Common.{◌≡◌, ◌<◌, ℕ, Bool, rules, ap, ◌∙◌}
+use Rattle.record.specs.declared.Record.{Record}
+use Rattle.record.specs.Parts.{idle_reader, reader_with, reader_place, with_readers}
+use Rattle.record.proofs.WorkLaws.{reader_place_inside}
+use Rattle.reader_starts.specs.Starts.{lookup_work}
+use Rattle.reader_starts.proofs.StartWork.{lookup_in_place}
+use Rattle.in_place.proofs.Stored.{reader_at, reader_stored}
+use Rattle.in_place.proofs.start_lookup.Goals as goal
+
+pub offset_bounds-panel-at : goal.offset_bounds-panel-at
+offset_bounds-panel-at c =
+    let below : c.reader_place-at.result < 16 = rw c.reader_place-at.ensures (reader_place_inside _) in
+    search rules
+
+pub bounds-panel-at : goal.bounds-panel-at
+bounds-panel-at c = rw c.reader_place-at.ensures (reader_place_inside _)
+
+pub offset_bounds-panel-at-2 : goal.offset_bounds-panel-at-2
+offset_bounds-panel-at-2 c =
+    let below : c.reader_place-at.result < 16 = rw c.reader_place-at.ensures (reader_place_inside _) in
+    search rules
+
+pub bounds-panel-at-2 : goal.bounds-panel-at-2
+bounds-panel-at-2 c = rw c.reader_place-at.ensures (reader_place_inside _)
+
+pub returns : goal.returns
+unfolding with_readers
+returns c =
+    let a = c.args in
+    let p = a.panel.now in
+    let s = a.slots.now in
+    ap (reader_stored p s c.reader_place-at.result) c.lookup_started-next.ensures
+    ∙ (λ j. reader_stored p s (c.reader_place-at.ensures j) (lookup_work (c.fits_at-fits.ensures j) a.reader a.point (reader_at p (c.reader_place-at.ensures j)).work))
+    ∙ lookup_in_place p s a.reader a.point

@@ -24,11 +24,12 @@ use circle::place_after;
 use dispatcher::turn_answer;
 use reader_starts::{lookup_started, walk_started};
 use reader_step::step_work;
-use record::{Reader, Record};
 use record::parts::{numbered_place, reader_place};
+use record::{Reader, Record};
 use writer::{change_started, put_started, removal_started};
 
 // Starts a reader's lookup of a point.
+#[tactic(auto, using(record::proofs::WorkLaws::reader_place_inside))]
 pub fn start_lookup(panel: &mut Record, slots: &[u64], reader: u32, point: u32) -> StartAnswer
     ensures { outcome panel.new slots.now (paper_start result) ≡ start_lookup panel.old slots.now reader point }
 {
@@ -41,6 +42,7 @@ pub fn start_lookup(panel: &mut Record, slots: &[u64], reader: u32, point: u32) 
 }
 
 // Starts a reader's walk over the slots.
+#[tactic(auto, using(record::proofs::WorkLaws::reader_place_inside))]
 pub fn start_walk(panel: &mut Record, slots: &[u64], reader: u32) -> StartAnswer
     ensures { outcome panel.new slots.now (paper_start result) ≡ start_walk panel.old slots.now reader }
 {
@@ -53,6 +55,7 @@ pub fn start_walk(panel: &mut Record, slots: &[u64], reader: u32) -> StartAnswer
 }
 
 // The next step of a reader's lookup or walk.
+#[tactic(auto, using(record::proofs::WorkLaws::reader_place_inside))]
 pub fn step_reader(panel: &mut Record, slots: &[u64], reader: u32) -> StepAnswer
     ensures { outcome panel.new slots.now (paper_step result) ≡ step_reader panel.old slots.now reader }
 {
@@ -113,6 +116,7 @@ pub fn start_command(panel: &mut Record, slots: &[u64], bytes: &[u8]) -> EntryAn
 }
 
 // The next step of the writer's put, change or removal, of a record that has been judged.
+#[tactic(auto, using(writer::proofs::WorkLaws::station_at_below))]
 fn writers_step(panel: &mut Record, slots: &mut [u64], fits: bool) -> StepAnswer
     ensures { outcome panel.new slots.new (paper_step result) ≡ step_stored fits panel.old slots.old }
 {
@@ -153,6 +157,7 @@ fn writers_turn(panel: &mut Record, slots: &mut [u64]) -> TurnAnswer
 }
 
 // A turn that is due to a reader, to nobody (17), or on a record out of range (18).
+#[tactic(auto, using(record::proofs::Numbered::place_below))]
 fn readers_turn(panel: &mut Record, slots: &[u64], due: u32) -> TurnAnswer
     ensures { outcome panel.new slots.now (paper_turn result) ≡ reader_turn due panel.old slots.now }
 {
@@ -176,6 +181,7 @@ fn readers_turn(panel: &mut Record, slots: &[u64], due: u32) -> TurnAnswer
 pub fn turn(panel: &mut Record, slots: &mut [u64]) -> TurnAnswer
     ensures { outcome panel.new slots.new (paper_turn result) ≡ take_turn panel.old slots.old }
 {
+    // the party due is found by the marks of sixteen readers
     let readers: &[Reader] = &panel.readers;
     prove!(readers.len() == 16);
     let due = due_at(panel, slots.len());

@@ -8,27 +8,6 @@ use Rattle.circle.specs.Marks.{place_after}
 use Rattle.dispatcher.specs.Due.{turned_by, reader_turn}
 use Rattle.in_place.proofs.readers_turn.Goals as goal
 
-pub offset_bounds-panel-at : goal.offset_bounds-panel-at
-offset_bounds-panel-at c =
-    let below : c.numbered_place-at.result < 16 = rw c.numbered_place-at.ensures (place_below 16 _ (omega arith)) in
-    search rules
-
-pub bounds-panel-at : goal.bounds-panel-at
-bounds-panel-at c = rw c.numbered_place-at.ensures (place_below 16 _ (omega arith))
-
-pub overflow_cast-at : goal.overflow_cast-at
-overflow_cast-at c =
-    let below : c.numbered_place-at.result < 16 = rw c.numbered_place-at.ensures (place_below 16 _ (omega arith)) in
-    search rules
-
-pub offset_bounds-panel-at-2 : goal.offset_bounds-panel-at-2
-offset_bounds-panel-at-2 c =
-    let below : c.numbered_place-at.result < 16 = rw c.numbered_place-at.ensures (place_below 16 _ (omega arith)) in
-    search rules
-
-pub bounds-panel-at-2 : goal.bounds-panel-at-2
-bounds-panel-at-2 c = rw c.numbered_place-at.ensures (place_below 16 _ (omega arith))
-
 pub returns : goal.returns
 unfolding reader_turn after_step work_of with_work with_readers with_place
 returns c =

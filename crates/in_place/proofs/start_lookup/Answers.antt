@@ -7,22 +7,6 @@ use Rattle.reader_starts.proofs.StartWork.{lookup_in_place}
 use Rattle.in_place.proofs.Stored.{reader_at, reader_stored}
 use Rattle.in_place.proofs.start_lookup.Goals as goal
 
-pub offset_bounds-panel-at : goal.offset_bounds-panel-at
-offset_bounds-panel-at c =
-    let below : c.reader_place-at.result < 16 = rw c.reader_place-at.ensures (reader_place_inside _) in
-    search rules
-
-pub bounds-panel-at : goal.bounds-panel-at
-bounds-panel-at c = rw c.reader_place-at.ensures (reader_place_inside _)
-
-pub offset_bounds-panel-at-2 : goal.offset_bounds-panel-at-2
-offset_bounds-panel-at-2 c =
-    let below : c.reader_place-at.result < 16 = rw c.reader_place-at.ensures (reader_place_inside _) in
-    search rules
-
-pub bounds-panel-at-2 : goal.bounds-panel-at-2
-bounds-panel-at-2 c = rw c.reader_place-at.ensures (reader_place_inside _)
-
 pub returns : goal.returns
 unfolding with_readers
 returns c =

@@ -38,8 +38,7 @@ returns c =
     let a = c.args in
     let l = c.loop-i in
     let rs = a.panel.now.readers in
-    let all : length rs ≡ 16 = l.invariant.whole (omega arith) in
-    (
+    let all : length rs ≡ 16 = l.invariant.whole (omega arith) in (
       sym (joined_done (reader_in_range a.m a.k) rs l.seen.fit l.i (omega arith)) ∙ l.invariant.tested,
       sym (marked_done rs l.seen.marks l.i (omega arith)) ∙ l.invariant.marked,
     )

@@ -116,7 +116,7 @@ pub fn start_command(panel: &mut Record, slots: &[u64], bytes: &[u8]) -> EntryAn
 }
 
 // The next step of the writer's put, change or removal, of a record that has been judged.
-#[tactic(auto, using(writer::proofs::WorkLaws::station_at_below))]
+#[tactic(auto, using(writer::proofs::WorkLaws::station_at_below, writer::proofs::WorkLaws::count_stored_below))]
 fn writers_step(panel: &mut Record, slots: &mut [u64], fits: bool) -> StepAnswer
     ensures { outcome panel.new slots.new (paper_step result) ≡ step_stored fits panel.old slots.old }
 {

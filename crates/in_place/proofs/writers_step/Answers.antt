@@ -4,14 +4,6 @@ use Rattle.writer.specs.Work.{StepStores, step_work, stores, stored_in, step_sto
 use Rattle.writer.proofs.WorkLaws.{count_stored_below, station_at_below}
 use Rattle.in_place.proofs.writers_step.Goals as goal
 
-pub offset_bounds-panel-next : goal.offset_bounds-panel-next
-offset_bounds-panel-next c =
-    let below : c.step_work-next.result.at < 64 = rw (ap (λ (p : StepStores). p.at) c.step_work-next.ensures) (count_stored_below _ _ _ _ _) in
-    search rules
-
-pub bounds-panel-next : goal.bounds-panel-next
-bounds-panel-next c = rw (ap (λ (p : StepStores). p.at) c.step_work-next.ensures) (count_stored_below _ _ _ _ _)
-
 pub returns : goal.returns
 unfolding step_stored with_reach with_counts with_stations with_writer
 returns c =

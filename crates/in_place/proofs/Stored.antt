@@ -1,5 +1,5 @@
 -- The record with what a call hands back stored in it.
-use Rattle.std.proofs.Common.{◌≡◌, ℕ, List, get_or, set}
+use Rattle.std.proofs.Common.{ℕ, List, get_or, set}
 use Rattle.record.specs.declared.Record.{Record}
 use Rattle.record.specs.declared.Reader.{Reader}
 use Rattle.record.specs.Parts.{idle_reader, reader_with, with_readers}

@@ -57,6 +57,7 @@ fn readers_seen(panel: &Record, m: u32, k: u32) -> Seen
 }
 
 // The party due, for a number of slots lent.
+#[tactic(auto, unfolding(record_ranges::specs::Ranges::in_range))]
 pub(crate) fn due_at(panel: &Record, lent: usize) -> u32
     ensures { result ≡ due_by (in_range lent panel.now) panel.now.place panel.now.writer.work (marked_behind 0 panel.now.readers) }
 {

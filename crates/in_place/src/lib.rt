@@ -68,6 +68,7 @@ pub fn step_reader(panel: &mut Record, slots: &[u64], reader: u32) -> StepAnswer
 }
 
 // Starts a put of a point and its value.
+#[tactic(auto, using(writer::proofs::StartsInPlace::put_in_place), unfolding(record::specs::Parts::with_writer))]
 pub fn start_put(panel: &mut Record, slots: &[u64], point: u32, value: u32) -> StartAnswer
     ensures { outcome panel.new slots.now (paper_start result) ≡ start_put panel.old slots.now point value }
 {
@@ -79,6 +80,7 @@ pub fn start_put(panel: &mut Record, slots: &[u64], point: u32, value: u32) -> S
 }
 
 // Starts a change of a point's value to (value AND keep) XOR flip.
+#[tactic(auto, using(writer::proofs::StartsInPlace::change_in_place), unfolding(record::specs::Parts::with_writer))]
 pub fn start_change(
     panel: &mut Record,
     slots: &[u64],
@@ -96,6 +98,7 @@ pub fn start_change(
 }
 
 // Starts a removal of a point.
+#[tactic(auto, using(writer::proofs::StartsInPlace::removal_in_place), unfolding(record::specs::Parts::with_writer))]
 pub fn start_removal(panel: &mut Record, slots: &[u64], point: u32) -> StartAnswer
     ensures { outcome panel.new slots.now (paper_start result) ≡ start_removal panel.old slots.now point }
 {
@@ -116,7 +119,7 @@ pub fn start_command(panel: &mut Record, slots: &[u64], bytes: &[u8]) -> EntryAn
 }
 
 // The next step of the writer's put, change or removal, of a record that has been judged.
-#[tactic(auto, using(writer::proofs::WorkLaws::station_at_below, writer::proofs::WorkLaws::count_stored_below))]
+#[tactic(auto, using(writer::proofs::WorkLaws::station_at_below, writer::proofs::WorkLaws::count_stored_below), unfolding(writer::specs::Work::step_stored, record::specs::Parts::with_reach, record::specs::Parts::with_counts, record::specs::Parts::with_stations, record::specs::Parts::with_writer))]
 fn writers_step(panel: &mut Record, slots: &mut [u64], fits: bool) -> StepAnswer
     ensures { outcome panel.new slots.new (paper_step result) ≡ step_stored fits panel.old slots.old }
 {
@@ -141,6 +144,7 @@ fn writers_step(panel: &mut Record, slots: &mut [u64], fits: bool) -> StepAnswer
 }
 
 // The next step of the writer's put, change or removal.
+#[tactic(auto, using(writer::proofs::StepInPlace::step_in_place))]
 pub fn step_writer(panel: &mut Record, slots: &mut [u64]) -> StepAnswer
     ensures { outcome panel.new slots.new (paper_step result) ≡ step_writer panel.old slots.old }
 {
@@ -149,6 +153,7 @@ pub fn step_writer(panel: &mut Record, slots: &mut [u64]) -> StepAnswer
 }
 
 // A turn that is due to the writer.
+#[tactic(auto, unfolding(dispatcher::specs::Due::writer_turn, record::specs::Parts::with_place))]
 fn writers_turn(panel: &mut Record, slots: &mut [u64]) -> TurnAnswer
     ensures { outcome panel.new slots.new (paper_turn result) ≡ writer_turn panel.old slots.old }
 {

@@ -1,6 +1,5 @@
-use Rattle.std.proofs.Common.{◌<◌, ltb, set, rules, arith, ap, ◌∙◌}
-use Rattle.record.specs.Parts.{work_of, with_readers, with_work, with_place, numbered_place}
-use Rattle.record.proofs.Numbered.{place_below}
+use Rattle.std.proofs.Common.{ltb, set, ap, ◌∙◌}
+use Rattle.record.specs.Parts.{work_of, with_readers, with_work, with_place}
 use Rattle.answers.specs.Answers.{outcome}
 use Rattle.reader_step.specs.Reader.{after_step, step_judged}
 use Rattle.reader_step.proofs.StepWork.{step_by_work}

@@ -1,7 +1,5 @@
-use Rattle.std.proofs.Common.{◌≡◌, ◌<◌, ℕ, Bool, rules, ap, ◌∙◌}
-use Rattle.record.specs.declared.Record.{Record}
-use Rattle.record.specs.Parts.{idle_reader, reader_with, reader_place, with_readers}
-use Rattle.record.proofs.WorkLaws.{reader_place_inside}
+use Rattle.std.proofs.Common.{ap, ◌∙◌}
+use Rattle.record.specs.Parts.{with_readers}
 use Rattle.reader_starts.specs.Starts.{lookup_work}
 use Rattle.reader_starts.proofs.StartWork.{lookup_in_place}
 use Rattle.in_place.proofs.Stored.{reader_at, reader_stored}

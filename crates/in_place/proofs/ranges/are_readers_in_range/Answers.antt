@@ -1,4 +1,4 @@
-use Rattle.std.proofs.Common.{◌≡◌, ◌+◌, length, arith, rules, sym, ◌∙◌}
+use Rattle.std.proofs.Common.{◌≡◌, length, arith, rules, sym, ◌∙◌}
 use Rattle.record_ranges.specs.Ranges.{reader_in_range, readers_in_range}
 use Rattle.in_place.proofs.JoinedTests.{true_both, joined_twice, joined_done}
 use Rattle.in_place.proofs.ranges.are_readers_in_range.Goals as goal

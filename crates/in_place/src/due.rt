@@ -20,6 +20,7 @@ pub(crate) struct Seen {
 }
 
 // With one more. Most have no work, and leave nothing to test.
+#[tactic(auto, using(conditions::proofs::ConditionLaws::both_with, record_ranges::proofs::Laws::idle_in_range), unfolding(record_ranges::specs::Ranges::reader_in_range, circle::specs::Marks::marked_with))]
 fn reader_seen(before: Seen, reader: Reader, m: u32, k: u32) -> Seen
     ensures { (result.fit ≡ both before.fit (reader_in_range m k reader)) × (result.marks ≡ marked_with before.marks reader) }
 {
@@ -56,6 +57,7 @@ fn readers_seen(panel: &Record, m: u32, k: u32) -> Seen
 }
 
 // The party due, for a number of slots lent.
+#[tactic(auto, unfolding(record_ranges::specs::Ranges::in_range))]
 pub(crate) fn due_at(panel: &Record, lent: usize) -> u32
     ensures { result ≡ due_by (in_range lent panel.now) panel.now.place panel.now.writer.work (marked_behind 0 panel.now.readers) }
 {

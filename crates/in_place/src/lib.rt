@@ -1,6 +1,8 @@
 // The calls of document 01 and N1's turn, on a record that stays where the main loop keeps it. Each takes out
 // what it needs, calls a function by value, and stores back what that hands back: a refused call stores again
 // what was there. Only the turn has a branch. A command's start takes out the whole record.
+#![tactic(auto)]
+
 ghost use Rattle.std.specs.Prelude.{◌≡◌};
 ghost use Rattle.answers.specs.Answers.{paper_start, paper_entry, paper_step, paper_turn, outcome};
 ghost use Rattle.reader_step.specs.Reader.{step_reader};
@@ -22,11 +24,12 @@ use circle::place_after;
 use dispatcher::turn_answer;
 use reader_starts::{lookup_started, walk_started};
 use reader_step::step_work;
-use record::Record;
 use record::parts::{numbered_place, reader_place};
+use record::{Reader, Record};
 use writer::{change_started, put_started, removal_started};
 
 // Starts a reader's lookup of a point.
+#[tactic(auto, using(record::proofs::WorkLaws::reader_place_inside))]
 pub fn start_lookup(panel: &mut Record, slots: &[u64], reader: u32, point: u32) -> StartAnswer
     ensures { outcome panel.new slots.now (paper_start result) ≡ start_lookup panel.old slots.now reader point }
 {
@@ -39,6 +42,7 @@ pub fn start_lookup(panel: &mut Record, slots: &[u64], reader: u32, point: u32) 
 }
 
 // Starts a reader's walk over the slots.
+#[tactic(auto, using(record::proofs::WorkLaws::reader_place_inside))]
 pub fn start_walk(panel: &mut Record, slots: &[u64], reader: u32) -> StartAnswer
     ensures { outcome panel.new slots.now (paper_start result) ≡ start_walk panel.old slots.now reader }
 {
@@ -51,6 +55,7 @@ pub fn start_walk(panel: &mut Record, slots: &[u64], reader: u32) -> StartAnswer
 }
 
 // The next step of a reader's lookup or walk.
+#[tactic(auto, using(record::proofs::WorkLaws::reader_place_inside))]
 pub fn step_reader(panel: &mut Record, slots: &[u64], reader: u32) -> StepAnswer
     ensures { outcome panel.new slots.now (paper_step result) ≡ step_reader panel.old slots.now reader }
 {
@@ -63,6 +68,7 @@ pub fn step_reader(panel: &mut Record, slots: &[u64], reader: u32) -> StepAnswer
 }
 
 // Starts a put of a point and its value.
+#[tactic(auto, using(writer::proofs::StartsInPlace::put_in_place), unfolding(record::specs::Parts::with_writer))]
 pub fn start_put(panel: &mut Record, slots: &[u64], point: u32, value: u32) -> StartAnswer
     ensures { outcome panel.new slots.now (paper_start result) ≡ start_put panel.old slots.now point value }
 {
@@ -74,6 +80,7 @@ pub fn start_put(panel: &mut Record, slots: &[u64], point: u32, value: u32) -> S
 }
 
 // Starts a change of a point's value to (value AND keep) XOR flip.
+#[tactic(auto, using(writer::proofs::StartsInPlace::change_in_place), unfolding(record::specs::Parts::with_writer))]
 pub fn start_change(
     panel: &mut Record,
     slots: &[u64],
@@ -91,6 +98,7 @@ pub fn start_change(
 }
 
 // Starts a removal of a point.
+#[tactic(auto, using(writer::proofs::StartsInPlace::removal_in_place), unfolding(record::specs::Parts::with_writer))]
 pub fn start_removal(panel: &mut Record, slots: &[u64], point: u32) -> StartAnswer
     ensures { outcome panel.new slots.now (paper_start result) ≡ start_removal panel.old slots.now point }
 {
@@ -111,6 +119,7 @@ pub fn start_command(panel: &mut Record, slots: &[u64], bytes: &[u8]) -> EntryAn
 }
 
 // The next step of the writer's put, change or removal, of a record that has been judged.
+#[tactic(auto, using(writer::proofs::WorkLaws::station_at_below, writer::proofs::WorkLaws::count_stored_below), unfolding(writer::specs::Work::step_stored, record::specs::Parts::with_reach, record::specs::Parts::with_counts, record::specs::Parts::with_stations, record::specs::Parts::with_writer))]
 fn writers_step(panel: &mut Record, slots: &mut [u64], fits: bool) -> StepAnswer
     ensures { outcome panel.new slots.new (paper_step result) ≡ step_stored fits panel.old slots.old }
 {
@@ -135,6 +144,7 @@ fn writers_step(panel: &mut Record, slots: &mut [u64], fits: bool) -> StepAnswer
 }
 
 // The next step of the writer's put, change or removal.
+#[tactic(auto, using(writer::proofs::StepInPlace::step_in_place))]
 pub fn step_writer(panel: &mut Record, slots: &mut [u64]) -> StepAnswer
     ensures { outcome panel.new slots.new (paper_step result) ≡ step_writer panel.old slots.old }
 {
@@ -143,6 +153,7 @@ pub fn step_writer(panel: &mut Record, slots: &mut [u64]) -> StepAnswer
 }
 
 // A turn that is due to the writer.
+#[tactic(auto, unfolding(dispatcher::specs::Due::writer_turn, record::specs::Parts::with_place))]
 fn writers_turn(panel: &mut Record, slots: &mut [u64]) -> TurnAnswer
     ensures { outcome panel.new slots.new (paper_turn result) ≡ writer_turn panel.old slots.old }
 {
@@ -151,6 +162,7 @@ fn writers_turn(panel: &mut Record, slots: &mut [u64]) -> TurnAnswer
 }
 
 // A turn that is due to a reader, to nobody (17), or on a record out of range (18).
+#[tactic(auto, using(record::proofs::Numbered::place_below))]
 fn readers_turn(panel: &mut Record, slots: &[u64], due: u32) -> TurnAnswer
     ensures { outcome panel.new slots.now (paper_turn result) ≡ reader_turn due panel.old slots.now }
 {
@@ -174,6 +186,9 @@ fn readers_turn(panel: &mut Record, slots: &[u64], due: u32) -> TurnAnswer
 pub fn turn(panel: &mut Record, slots: &mut [u64]) -> TurnAnswer
     ensures { outcome panel.new slots.new (paper_turn result) ≡ take_turn panel.old slots.old }
 {
+    // the party due is found by the marks of sixteen readers
+    let readers: &[Reader] = &panel.readers;
+    prove!(readers.len() == 16);
     let due = due_at(panel, slots.len());
     if due == 0 {
         writers_turn(panel, slots)

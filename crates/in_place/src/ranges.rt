@@ -35,6 +35,7 @@ pub(crate) fn are_stations_in_range(panel: &Record) -> bool
 }
 
 // Whether every field is in range, for a number of slots lent.
+#[tactic(auto, unfolding(record_ranges::specs::Ranges::in_range))]
 pub(crate) fn fits_at(panel: &Record, lent: usize) -> bool
     ensures { result ≡ in_range lent panel.now }
 {

@@ -1,5 +1,7 @@
 // The calls in place for a caller who keeps the record by value: each lends it by `&mut` to the call in place
 // and gives it back with the answer. So a function without references to structs can run the calls in place.
+#![tactic(auto)]
+
 ghost use Rattle.std.specs.Prelude.{◌≡◌};
 ghost use Rattle.answers.specs.Answers.{paper_start, paper_entry, paper_step, paper_turn, outcome};
 ghost use Rattle.reader_step.specs.Reader.{step_reader};

@@ -1,0 +1,17 @@
+use Rattle.std.proofs.Common.{◌≡◌, ◌-◌, ◌%◌, ◌<◌, ◌≤◌, length, drop}
+use Rattle.conditions.specs.Conditions.{both}
+use Rattle.record_ranges.specs.Ranges.{readers_in_range}
+use Rattle.circle.specs.Marks.{marked_behind}
+use Rattle.in_place.proofs.due.readers_seen.Given as goal
+
+abbrev pub invariant-loop-i : goal.invariant-loop-i
+invariant-loop-i l = record {
+  upto : l.i ≤ 16;
+  even : l.i % 2 ≡ 0;
+  whole : 0 < l.i → length l.panel.readers ≡ 16;
+  tested : both l.seen.fit (readers_in_range l.m l.k (drop l.i l.panel.readers)) ≡ readers_in_range l.m l.k l.panel.readers;
+  marked : marked_behind l.seen.marks (drop l.i l.panel.readers) ≡ marked_behind 0 l.panel.readers;
+}
+
+abbrev pub decreases-loop-i : goal.decreases-loop-i
+decreases-loop-i l = 16 - l.i

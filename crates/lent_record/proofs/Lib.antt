@@ -1,9 +1,0 @@
-pub mod Again
-pub mod Lending
-pub mod Lent
-pub mod LentLocal
-pub mod Loop
-pub mod LoopMet
-pub mod LoopMut
-pub mod LoopShared
-pub mod Panel

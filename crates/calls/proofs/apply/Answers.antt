@@ -1,76 +1,40 @@
-use mathlib.Core.Path.{◌∙◌, sym, ap}
-use Rattle.calls.specs.declared.Call.{Call}
+use borrow.Author.Rules.{rules}
 use Rattle.calls.specs.Calls.{applied}
+use Rattle.calls.proofs.HandedOn.{handed_on}
 use Rattle.calls.proofs.apply.Goals as goal
 
 pub returns-in-StartLookup : goal.returns-in-StartLookup
 unfolding applied
-returns-in-StartLookup c =
-    let a = c.args in
-    c.started.ensures a.slots.now
-    ∙ c.start_lookup.ensures
-    ∙ sym (ap (λ (call : Call). applied a.panel a.slots.now call a.frame.now) c.in-StartLookup.is)
+returns-in-StartLookup c = rw c.in-StartLookup.is (search (rules, handed_on))
 
 pub returns-in-StartWalk : goal.returns-in-StartWalk
 unfolding applied
-returns-in-StartWalk c =
-    let a = c.args in
-    c.started-in-StartWalk.ensures a.slots.now
-    ∙ c.start_walk.ensures
-    ∙ sym (ap (λ (call : Call). applied a.panel a.slots.now call a.frame.now) c.in-StartWalk.is)
+returns-in-StartWalk c = rw c.in-StartWalk.is (search (rules, handed_on))
 
 pub returns-in-StepReader : goal.returns-in-StepReader
 unfolding applied
-returns-in-StepReader c =
-    let a = c.args in
-    c.stepped.ensures a.slots.now
-    ∙ c.step_reader.ensures
-    ∙ sym (ap (λ (call : Call). applied a.panel a.slots.now call a.frame.now) c.in-StepReader.is)
+returns-in-StepReader c = rw c.in-StepReader.is (search (rules, handed_on))
 
 pub returns-in-StartPut : goal.returns-in-StartPut
 unfolding applied
-returns-in-StartPut c =
-    let a = c.args in
-    c.started-in-StartPut.ensures a.slots.now
-    ∙ c.start_put.ensures
-    ∙ sym (ap (λ (call : Call). applied a.panel a.slots.now call a.frame.now) c.in-StartPut.is)
+returns-in-StartPut c = rw c.in-StartPut.is (search (rules, handed_on))
 
 pub returns-in-StartChange : goal.returns-in-StartChange
 unfolding applied
-returns-in-StartChange c =
-    let a = c.args in
-    c.started-in-StartChange.ensures a.slots.now
-    ∙ c.start_change.ensures
-    ∙ sym (ap (λ (call : Call). applied a.panel a.slots.now call a.frame.now) c.in-StartChange.is)
+returns-in-StartChange c = rw c.in-StartChange.is (search (rules, handed_on))
 
 pub returns-in-StartRemoval : goal.returns-in-StartRemoval
 unfolding applied
-returns-in-StartRemoval c =
-    let a = c.args in
-    c.started-in-StartRemoval.ensures a.slots.now
-    ∙ c.start_removal.ensures
-    ∙ sym (ap (λ (call : Call). applied a.panel a.slots.now call a.frame.now) c.in-StartRemoval.is)
+returns-in-StartRemoval c = rw c.in-StartRemoval.is (search (rules, handed_on))
 
 pub returns-in-StartCommand : goal.returns-in-StartCommand
 unfolding applied
-returns-in-StartCommand c =
-    let a = c.args in
-    c.entered.ensures a.slots.now
-    ∙ c.start_command.ensures
-    ∙ sym (ap (λ (call : Call). applied a.panel a.slots.now call a.frame.now) c.in-StartCommand.is)
+returns-in-StartCommand c = rw c.in-StartCommand.is (search (rules, handed_on))
 
 pub returns-in-StepWriter : goal.returns-in-StepWriter
 unfolding applied
-returns-in-StepWriter c =
-    let a = c.args in
-    c.stepped-in-StepWriter.ensures _
-    ∙ c.step_writer.ensures
-    ∙ sym (ap (λ (call : Call). applied a.panel a.slots.now call a.frame.now) c.in-StepWriter.is)
+returns-in-StepWriter c = rw c.in-StepWriter.is (search (rules, handed_on))
 
 pub returns-in-Turn : goal.returns-in-Turn
 unfolding applied
-returns-in-Turn c =
-    let a = c.args in
-    c.turned.ensures _
-    ∙ c.turn.ensures
-    ∙ sym (ap (λ (call : Call). applied a.panel a.slots.now call a.frame.now) c.in-Turn.is)
+returns-in-Turn c = rw c.in-Turn.is (search (rules, handed_on))

@@ -1,3 +1,4 @@
+-- `calls::apply` meets its contract, call by call.
 use borrow.Author.Rules.{rules}
 use Rattle.calls.specs.Calls.{applied}
 use Rattle.calls.proofs.HandedOn.{handed_on}

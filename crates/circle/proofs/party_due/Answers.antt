@@ -1,3 +1,4 @@
+-- `circle::party_due` meets its contract: the zeros in front of the digits tell the party of the highest.
 use Rattle.std.proofs.Common.{sym, ◌∙◌, arith}
 use Rattle.circle.proofs.HighestDigit.{shifted_some}
 use Rattle.circle.proofs.MarksLaws.{place_within, due_outside, cut_leads, all_leads, due_around, due_ahead}

@@ -1,3 +1,4 @@
+-- `circle::readers_marked` meets its contract: the readers that are left, behind the marks so far, give the marks of all.
 use Rattle.std.proofs.Common.{sym, refl, ◌∙◌, arith, rules}
 use Rattle.circle.proofs.MarksLaws.{marked_next, marked_done}
 use Rattle.circle.proofs.readers_marked.Goals as goal

@@ -1,3 +1,4 @@
+-- `command::answer_received` meets its contract, by what was received.
 use mathlib.Core.Path.{sym, ap, ◌∙◌}
 use Rattle.answers.specs.Answers.{outcome}
 use Rattle.answers.proofs.AnswerLaws.{refused_call}

@@ -1,3 +1,4 @@
+-- `command::change_starts` meets its contract: refused if the writer has work, else its work is the change.
 use mathlib.Core.Path.{◌≡◌, sym, ◌∙◌}
 use mathlib.Core.Bool.{false}
 use Rattle.refusal.specs.Judging.{refuse_if}

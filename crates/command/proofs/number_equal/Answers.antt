@@ -1,3 +1,4 @@
+-- `command::number_equal` meets its contract, by its test.
 use mathlib.Core.Path.{◌≡◌, sym, ◌∙◌}
 use Rattle.command.specs.Command.{number_equal}
 use mathlib.Core.Bool.{false}

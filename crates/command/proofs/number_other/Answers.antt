@@ -1,3 +1,4 @@
+-- `command::number_other` meets its contract, by its test.
 use Prim.Native.Nat.{◌+◌}
 use mathlib.Core.Logic.{◌≢◌}
 use native.Mathlib.Omega.{arith}

@@ -1,3 +1,4 @@
+-- `command::receive_command` meets its contract: an empty string, another map byte, or what the frame reader says.
 use mathlib.Core.Path.{ap, ◌∙◌}
 use borrow.Author.Tests.{ne_eqb}
 use Rattle.command.specs.declared.Sent.{Sent}

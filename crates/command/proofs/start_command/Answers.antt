@@ -1,3 +1,4 @@
+-- `command::start_command` meets its contract: refusal 1, or the answer to what the bytes are taken for.
 use mathlib.Core.Path.{sym, ap, ◌∙◌}
 use Rattle.refusal.specs.Judging.{refuse_if}
 use Rattle.answers.specs.Answers.{unless_refused}

@@ -1,3 +1,4 @@
+-- `disabled_points::count_disabled` meets its contract: the count so far and the slots left give the whole.
 use mathlib.Core.Path.{◌∙◌, sym, ap}
 use native.Mathlib.Omega.{arith}
 use borrow.Author.Rules.{rules}

@@ -1,3 +1,4 @@
+-- `disabled_points::disabled_point` meets its contract: the lowest of the disabled points is one of them.
 use Prim.Native.Nat.{ℕ, ◌<◌}
 use mathlib.Core.Path.{◌≡◌, ◌∙◌, sym, ap}
 use native.Mathlib.Omega.{arith}

@@ -1,3 +1,4 @@
+-- `disabled_points::disabled_total` meets its contract, by its test; the count fits, since the slots are at most 4096.
 use mathlib.Core.Path.{◌∙◌, sym}
 use native.Mathlib.Omega.{arith}
 use lib.ListN.{length}

@@ -1,3 +1,4 @@
+-- `disabled_points::lower` meets its contract, by its two tests.
 use Prim.Native.Nat.{ℕ}
 use mathlib.Core.Path.{◌∙◌, sym, ap, ap₂}
 use native.Mathlib.Omega.{arith}

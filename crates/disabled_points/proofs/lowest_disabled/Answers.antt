@@ -1,3 +1,4 @@
+-- `disabled_points::lowest_disabled` meets its contract: the least so far and the slots left give the lowest of all.
 use Prim.Native.Nat.{ℕ, ◌+◌, min}
 use mathlib.Core.Path.{◌∙◌, ap}
 use native.Mathlib.Omega.{arith}

@@ -1,3 +1,4 @@
+-- `dispatcher::reader_turn` meets its contract: the place is replaced, then the step is made.
 use Prim.Native.Nat.{◌<◌}
 use mathlib.Core.Path.{◌∙◌, ap}
 use lib.Dec.{ltb}

@@ -1,3 +1,4 @@
+-- `dispatcher::turn` meets its contract: the record is judged, the party due is found by the marks, and its turn is taken.
 use mathlib.Core.Path.{◌≡◌, ◌∙◌, ap, sym}
 use mathlib.Core.Bool.{Bool, cond}
 use lib.ListN.{length}

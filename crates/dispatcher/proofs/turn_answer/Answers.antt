@@ -1,3 +1,4 @@
+-- `dispatcher::turn_answer` meets its contract, case by case.
 use Rattle.dispatcher.proofs.TurnLaws.{answer_of_result, answer_of_refusal}
 use Rattle.dispatcher.proofs.turn_answer.Goals as goal
 

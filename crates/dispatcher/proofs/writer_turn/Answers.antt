@@ -1,3 +1,4 @@
+-- `dispatcher::writer_turn` meets its contract: the place is replaced, then the step is made.
 use mathlib.Core.Path.{◌∙◌, ap}
 use mathlib.Core.Bool.{true}
 use Rattle.record.specs.declared.Record.{Record}

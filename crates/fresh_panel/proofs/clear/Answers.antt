@@ -1,3 +1,4 @@
+-- `fresh_panel::clear` meets its contract: the slots up to the loop's place are zeros.
 use Prim.Native.Nat.{ℕ, ◌<◌}
 use mathlib.Core.List.{List, [], ◌∷◌, ◌++◌}
 use mathlib.Core.Path.{◌≡◌, refl, ◌∙◌, sym, ap}

@@ -1,3 +1,4 @@
+-- `hash::coefficient` meets its contract: outside the table a law's case, inside it the table's test, carried to the entry.
 use Prim.Native.Nat.{◌+◌, ◌-◌}
 use mathlib.Core.Path.{◌≡◌, sym, ap, ◌∙◌}
 use native.Mathlib.Omega.{arith}

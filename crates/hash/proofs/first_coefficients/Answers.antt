@@ -1,3 +1,4 @@
+-- `hash::first_coefficients` meets its contract: the entries copied so far are the table's, and those follow the recurrence.
 use mathlib.Core.Path.{refl, ◌∙◌}
 use native.Mathlib.Omega.{arith}
 use lib.ListN.{length-set}

@@ -1,3 +1,4 @@
+-- `hash::generated` meets its contract: after `counter` iterations the value is z(counter).
 use mathlib.Core.Path.{◌≡◌, ap, ◌∙◌}
 use native.Mathlib.Omega.{arith}
 use Rattle.hash.specs.Position.{z}

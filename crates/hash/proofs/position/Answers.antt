@@ -1,3 +1,5 @@
+-- `hash::position` meets its contract: outside its range each early return is a law's case, inside it the two entries are
+-- z(2i - 1) and z(2i).
 use Prim.Native.Nat.{ℕ}
 use mathlib.Core.Path.{sym, ap₂, ◌∙◌}
 use native.Mathlib.Omega.{arith}

@@ -1,3 +1,4 @@
+-- `panel_and_list::carry_out` meets its contract: a command that was started had a command's frame.
 use Rattle.panel_and_list.proofs.KeptLaws.{carried_out}
 use Rattle.panel_and_list.proofs.carry_out.Goals as goal
 

@@ -1,3 +1,4 @@
+-- `plain_rows::feed` meets its contract, by whether the slices hold the rows.
 use mathlib.Core.Path.{◌∙◌, sym}
 use Rattle.conditions.specs.Conditions.{both}
 use Rattle.plain_rows.specs.Fed.{fed_rows}

@@ -1,3 +1,4 @@
+-- `plain_rows::feed_rows` meets its contract, operation by operation.
 use Rattle.answers.specs.Answers.{ended_with}
 use Rattle.plain_list.specs.PlainList.{feed}
 use Rattle.plain_rows.specs.Fed.{fed_rows}

@@ -1,3 +1,4 @@
+-- `reader_starts::start_walk` meets its contract: the start by the reader's work, put back in its place.
 use mathlib.Core.Path.{◌∙◌, ap}
 use Rattle.answers.specs.Answers.{outcome, paper_start}
 use Rattle.reader_step.specs.Reader.{after_step}

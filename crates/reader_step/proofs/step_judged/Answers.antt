@@ -1,3 +1,4 @@
+-- `reader_step::step_judged` meets its contract: the step of the reader's work, put back in its place.
 use mathlib.Core.Path.{◌∙◌, ap}
 use Rattle.record.specs.declared.Record.{Record}
 use Rattle.answers.specs.Answers.{outcome, paper_step}

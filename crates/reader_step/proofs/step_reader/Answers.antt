@@ -1,3 +1,4 @@
+-- `reader_step::step_reader` meets its contract: the record is judged, and the step of a record that has been judged is made.
 use mathlib.Core.Path.{◌∙◌, ap}
 use mathlib.Core.Bool.{Bool}
 use Rattle.reader_step.specs.Reader.{step_judged}

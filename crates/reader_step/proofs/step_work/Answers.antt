@@ -1,3 +1,4 @@
+-- `reader_step::step_work` meets its contract: refused, or counted and made.
 use Prim.Native.Nat.{ℕ}
 use mathlib.Core.Path.{◌∙◌, sym, ap}
 use Rattle.refusal.specs.Refusals.{paper_judged}

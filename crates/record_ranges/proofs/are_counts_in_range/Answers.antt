@@ -1,3 +1,4 @@
+-- `record_ranges::are_counts_in_range` meets its contract: what is left of the first k counts passes exactly if all of them do.
 use Prim.Native.Nat.{ℕ}
 use mathlib.Core.Path.{◌∙◌, sym, refl}
 use mathlib.Core.Bool.{Bool}

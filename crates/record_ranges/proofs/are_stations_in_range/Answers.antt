@@ -1,3 +1,4 @@
+-- `record_ranges::are_stations_in_range` meets its contract: what is left of the list passes exactly if the whole does.
 use mathlib.Core.Path.{◌∙◌, sym, refl}
 use native.Mathlib.Omega.{arith}
 use borrow.Author.Rules.{rules}

@@ -1,3 +1,4 @@
+-- `record_ranges::station_joined` meets its contract: a station that sent no command is in range, and else the two tests are joined.
 use mathlib.Core.Path.{sym}
 use Rattle.conditions.proofs.ConditionLaws.{both_with}
 use Rattle.record_ranges.proofs.Laws.{unheard_in_range}

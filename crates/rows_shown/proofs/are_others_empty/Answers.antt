@@ -1,3 +1,4 @@
+-- `rows_shown::are_others_empty` meets its contract, by the slots so far.
 use Prim.Native.Nat.{ℕ}
 use mathlib.Core.Bool.{Bool}
 use mathlib.Core.Path.{◌≡◌, refl, ap, ap₂, ◌∙◌}

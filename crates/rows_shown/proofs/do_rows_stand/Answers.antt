@@ -1,3 +1,4 @@
+-- `rows_shown::do_rows_stand` meets its contract, by the rows so far.
 use Prim.Native.Nat.{ℕ}
 use mathlib.Core.Path.{◌≡◌, refl, ap, ap₂, ◌∙◌}
 use native.Mathlib.Omega.{arith}

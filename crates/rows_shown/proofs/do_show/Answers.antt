@@ -1,3 +1,4 @@
+-- `rows_shown::do_show` meets its contract: the two tests decide.
 use mathlib.Core.Path.{ap₂, ◌∙◌}
 use Rattle.conditions.specs.Conditions.{both}
 use Rattle.plain_rows.specs.Rows.{rows_of}

@@ -1,3 +1,4 @@
+-- `rows_shown::is_place` meets its contract, by the rows so far.
 use Prim.Native.Nat.{ℕ}
 use mathlib.Core.Bool.{Bool}
 use mathlib.Core.Path.{◌≡◌, refl, ap, ap₂, ◌∙◌}

@@ -1,3 +1,4 @@
+-- `rows_shown::word_listed` meets its contract, by the rows so far.
 use Prim.Native.Nat.{ℕ}
 use mathlib.Core.Bool.{cond}
 use mathlib.Core.Path.{◌≡◌, refl, ap, ap₂, ◌∙◌}

@@ -1,3 +1,4 @@
+-- `effects::counts::largest_counted` meets its contract: from above, the first index that is counted.
 use mathlib.Core.Path.{◌≡◌, refl, ◌∙◌, sym, ap}
 use native.Mathlib.Omega.{arith}
 use Rattle.effects.specs.Counts.{largest_up_to, largest_counted}

@@ -1,3 +1,4 @@
+-- `frame::big_endian::number_at` meets its contract: after i iterations the number is that of the first i bytes, below 256 ^ i.
 use mathlib.Core.Path.{◌≡◌, refl}
 use native.Mathlib.Numerals.{add-one}
 use native.Mathlib.Omega.{arith}

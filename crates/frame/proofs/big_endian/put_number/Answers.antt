@@ -1,3 +1,4 @@
+-- `frame::big_endian::put_number` meets its contract: the bytes still to store, stored, would make what the whole run makes.
 use Prim.Native.Nat.{suc, ◌-◌}
 use mathlib.Core.Path.{◌≡◌, refl, ap, ◌∙◌}
 use native.Mathlib.Omega.{arith}

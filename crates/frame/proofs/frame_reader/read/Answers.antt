@@ -1,3 +1,4 @@
+-- `frame::frame_reader::read` meets its contract: an empty string, a map byte that is not allowed, or what its layout gives.
 use mathlib.Core.Path.{sym, ap, ◌∙◌}
 use borrow.Author.Tests.{ne_eqb}
 use Rattle.refusal.specs.Judging.{refuse_if}

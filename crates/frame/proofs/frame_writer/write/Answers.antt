@@ -1,3 +1,4 @@
+-- `frame::frame_writer::write` meets its contract: the map byte, the ranges, the room, and then the stores.
 use mathlib.Core.Path.{sym, ap, ◌∙◌}
 use Rattle.refusal.specs.Refusals.{number_of, paper_judged}
 use Rattle.refusal.proofs.Laws.{number_positive}

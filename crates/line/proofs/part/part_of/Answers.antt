@@ -1,3 +1,4 @@
+-- `line::part::part_of` meets its contract: what the line so far makes of the bytes left is what the line makes of all.
 use mathlib.Core.Path.{sym, ◌∙◌}
 use native.Mathlib.Omega.{arith}
 use borrow.Author.Tests.{ne_eqb}

@@ -1,3 +1,4 @@
+-- `line::run::digits_run` meets its contract: at each place the digits read so far and those left make up the run.
 use mathlib.Core.List.{[]}
 use mathlib.Core.Path.{◌≡◌, ◌∙◌, sym}
 use native.Mathlib.Omega.{arith}

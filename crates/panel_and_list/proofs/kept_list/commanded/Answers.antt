@@ -1,5 +1,5 @@
-use mathlib.Core.Path.{sym, ap, ◌∙◌}
-use Rattle.frame.specs.Answers.{paper_read}
+-- `panel_and_list::kept_list::commanded` meets its contract: a frame that is a command has the fields that the frame reader gives.
+use mathlib.Core.Path.{ap, ◌∙◌}
 use Rattle.history.specs.Log.{as_change}
 use Rattle.panel_and_list.proofs.KeptLaws.{frame_sent, frame_not_refused}
 use Rattle.panel_and_list.proofs.kept_list.commanded.Goals as goal

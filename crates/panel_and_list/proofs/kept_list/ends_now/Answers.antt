@@ -1,3 +1,4 @@
+-- `panel_and_list::kept_list::ends_now` meets its contract.
 use mathlib.Core.Path.{ap₂, ◌∙◌}
 use Rattle.conditions.specs.Conditions.{both}
 use Rattle.answers.specs.Answers.{paper_call}

@@ -1,3 +1,4 @@
+-- `panel_and_list::kept_list::notes_now` meets its contract, call by call.
 use mathlib.Core.Path.{refl, sym, subst}
 use Rattle.answers.specs.Answers.{paper_call}
 use Rattle.calls.specs.declared.Call.{Call}

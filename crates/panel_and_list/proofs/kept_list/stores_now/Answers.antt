@@ -1,3 +1,4 @@
+-- `panel_and_list::kept_list::stores_now` meets its contract.
 use mathlib.Core.Bool.{not}
 use mathlib.Core.Path.{ap, ap₂, ◌∙◌}
 use Rattle.conditions.specs.Conditions.{both}

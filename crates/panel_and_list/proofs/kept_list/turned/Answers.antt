@@ -1,3 +1,4 @@
+-- `panel_and_list::kept_list::turned` meets its contract: the notes after the writer's step, or as they were.
 use mathlib.Core.Path.{sym, subst, ◌∙◌}
 use Rattle.answers.specs.Answers.{paper_call}
 use Rattle.history.specs.Log.{Role, served_by}

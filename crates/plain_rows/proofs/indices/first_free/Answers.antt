@@ -1,3 +1,4 @@
+-- `plain_rows::indices::first_free` meets its contract: each position up to the loop's is some row's place.
 use Prim.Native.Nat.{ℕ, ◌+◌}
 use mathlib.Core.Path.{◌∙◌, sym, ap}
 use native.Mathlib.Omega.{arith}

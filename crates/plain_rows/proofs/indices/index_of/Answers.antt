@@ -1,3 +1,4 @@
+-- `plain_rows::indices::index_of` meets its contract: no index passed has its position at the place.
 use Prim.Native.Nat.{ℕ, ◌+◌}
 use mathlib.Core.Path.{◌∙◌, sym}
 use native.Mathlib.Omega.{arith}

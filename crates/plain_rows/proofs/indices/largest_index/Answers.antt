@@ -1,3 +1,4 @@
+-- `plain_rows::indices::largest_index` meets its contract: the largest index of the rows passed.
 use Prim.Native.Nat.{ℕ, max}
 use mathlib.Core.Path.{◌≡◌, refl, ◌∙◌, sym, ap}
 use native.Mathlib.Omega.{arith}

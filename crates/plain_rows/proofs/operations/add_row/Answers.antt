@@ -1,3 +1,4 @@
+-- `plain_rows::operations::add_row` meets its contract: no position is free, there is no room, or the row is stored.
 use mathlib.Core.Path.{◌∙◌, refl, sym}
 use native.Mathlib.Omega.{arith}
 use Rattle.answers.specs.Answers.{placed, ended_with}

@@ -1,3 +1,4 @@
+-- `plain_rows::operations::change_row` meets its contract, by whether the point has a row.
 use mathlib.Core.Path.{◌≡◌, refl, sym}
 use lib.Bits.{bit_and, bit_xor}
 use Rattle.answers.specs.Answers.{changed, ended_with}

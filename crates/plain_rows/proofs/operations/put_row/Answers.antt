@@ -1,3 +1,4 @@
+-- `plain_rows::operations::put_row` meets its contract, by whether the point has a row.
 use mathlib.Core.Path.{◌≡◌, sym}
 use Rattle.answers.specs.Answers.{placed}
 use Rattle.plain_list.specs.PlainList.{present, entry_of, with_value, index_of, tells, put_entry, put_row}

@@ -1,3 +1,4 @@
+-- `plain_rows::operations::remove_row` meets its contract, by whether the point has a row.
 use Prim.Native.Nat.{ℕ}
 use mathlib.Core.Path.{◌≡◌, ◌∙◌, refl, sym, ap}
 use Rattle.answers.specs.Answers.{removed, ended_with}

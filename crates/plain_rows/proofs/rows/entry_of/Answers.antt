@@ -1,3 +1,4 @@
+-- `plain_rows::rows::entry_of` meets its contract: from the newest row down, the first of the point.
 use Prim.Native.Nat.{ℕ, ◌-◌, ◌<◌}
 use mathlib.Core.Path.{◌≡◌, refl, ◌∙◌, sym, ap}
 use native.Mathlib.Omega.{arith}

@@ -1,3 +1,4 @@
+-- `plain_rows::rows::is_place` meets its contract: from the newest row down, none has the place so far.
 use Prim.Native.Nat.{ℕ}
 use mathlib.Core.Path.{◌≡◌, refl, ◌∙◌, sym, ap}
 use native.Mathlib.Omega.{arith}

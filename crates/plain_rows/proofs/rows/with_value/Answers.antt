@@ -1,3 +1,4 @@
+-- `plain_rows::rows::with_value` meets its contract: so far for the rows passed.
 use mathlib.Core.Path.{◌≡◌, refl}
 use native.Mathlib.Omega.{arith}
 use lib.ListN.{length-set}

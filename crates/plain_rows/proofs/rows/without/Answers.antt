@@ -1,3 +1,4 @@
+-- `plain_rows::rows::without` meets its contract: so far for the rows passed.
 use mathlib.Core.Path.{◌≡◌, refl, ◌∙◌, sym, ap}
 use native.Mathlib.Omega.{arith}
 use lib.ListN.{length, length-set}

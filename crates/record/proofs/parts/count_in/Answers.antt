@@ -1,3 +1,4 @@
+-- `record::parts::count_in` meets its contract: the element counted from 1, or what stands for none.
 use mathlib.Core.Path.{sym}
 use native.Mathlib.Omega.{arith}
 use Rattle.record.proofs.Numbered.{numbered_zero, numbered_past, numbered_at}

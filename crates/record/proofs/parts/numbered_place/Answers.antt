@@ -1,3 +1,4 @@
+-- `record::parts::numbered_place` meets its contract: one less than the number, or where there is no such element 0.
 use mathlib.Core.Path.{sym}
 use native.Mathlib.Omega.{arith}
 use Rattle.record.proofs.Numbered.{place_zero, place_past, place_at}

@@ -1,3 +1,4 @@
+-- `record::parts::station_of` meets its contract: the element counted from 1, or what stands for none.
 use borrow.Author.Rules.{rules}
 use mathlib.Core.Path.{◌≡◌, sym, ◌∙◌}
 use native.Mathlib.Omega.{arith}

@@ -1,3 +1,4 @@
+-- `record::parts::with_station` meets its contract: the element counted from 1 is replaced, or where there is none the record stays.
 use borrow.Author.Rules.{rules}
 use mathlib.Core.Path.{◌≡◌, sym, ap}
 use native.Mathlib.Omega.{arith}

@@ -1,3 +1,4 @@
+-- `refusal::Refusal::word` meets its contract: at each row the characters of its word compute to the letters handed over.
 use Rattle.refusal.proofs.Refusal.word.Goals as goal
 
 pub returns-in-Misfit : goal.returns-in-Misfit

@@ -1,3 +1,4 @@
+-- `slot_words::taken::taken_slots` meets its contract: the count so far and the slots left give the whole.
 use native.Mathlib.Omega.{arith}
 use borrow.Author.Tests.{eq-eqb, ne_eqb}
 use borrow.Author.Rules.{rules}

@@ -1,3 +1,4 @@
+-- `whole_operations::lookup::whole_lookup` meets its contract: refused, or what its search comes to.
 use lib.ListN.{length}
 use Prim.Native.Nat.{ℕ}
 use mathlib.Core.Path.{◌≡◌, refl, ◌∙◌, sym, ap}

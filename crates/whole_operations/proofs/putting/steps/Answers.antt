@@ -1,3 +1,5 @@
+-- `whole_operations::putting::steps` meets its contract: what is left to do from here comes to the same as the whole, for the record with the reach and
+-- the index that are kept beside it.
 use Prim.Native.Nat.{ℕ, ◌-◌}
 use mathlib.Core.Bool.{Bool, cond}
 use mathlib.Core.Path.{refl, ◌∙◌, ap}

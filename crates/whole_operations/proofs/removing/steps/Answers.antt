@@ -1,3 +1,5 @@
+-- `whole_operations::removing::steps` meets its contract: what is left to do from here comes to the same as the whole, and the record held is the first
+-- one but for the reach and one count.
 use Prim.Native.Nat.{ℕ, ◌-◌, ◌≤◌}
 use mathlib.Core.Bool.{Bool, cond}
 use mathlib.Core.Path.{◌≡◌, refl, ◌∙◌, sym, ap, transport}

@@ -1,3 +1,4 @@
+-- `whole_operations::removing::whole_removal` meets its contract: refused, or searched and then stepped to the end.
 use lib.ListN.{length}
 use mathlib.Core.Path.{◌≡◌, refl, ◌∙◌, sym, ap}
 use native.Mathlib.Omega.{arith}

@@ -1,3 +1,4 @@
+-- `whole_operations::searching::whole_search` meets its contract: from each index on, with as many steps made, the search comes to the same.
 use Prim.Native.Nat.{ℕ, ◌+◌}
 use mathlib.Core.Path.{refl, ◌∙◌, sym, ap, subst}
 use native.Mathlib.Omega.{arith}

@@ -1,3 +1,4 @@
+-- `writer::starts::start_put` meets its contract: what the start hands back is stored in the record.
 use mathlib.Core.Path.{ap}
 use Rattle.answers.specs.Answers.{paper_start}
 use Rattle.writer.specs.Starts.{put_begun, start_put}

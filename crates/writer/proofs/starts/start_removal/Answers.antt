@@ -1,3 +1,4 @@
+-- `writer::starts::start_removal` meets its contract: what the start hands back is stored in the record.
 use mathlib.Core.Path.{ap}
 use Rattle.answers.specs.Answers.{paper_start}
 use Rattle.writer.specs.Starts.{removal_begun, start_removal}

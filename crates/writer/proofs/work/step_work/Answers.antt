@@ -1,3 +1,4 @@
+-- `writer::work::step_work` meets its contract: each part by what the update makes of it.
 use Prim.Native.Nat.{◌<◌}
 use borrow.Author.Rules.{rules}
 use Rattle.effects.proofs.EffectLaws.{count_place_below}

@@ -1,57 +1,28 @@
--- A number's decimal digits: the fewest digits that hold it, as the kit's library gives them, are those of the definition.
-use Prim.Native.Nat.{ℕ, zero, suc, ◌+◌, ◌-◌, ◌/◌, ◌%◌, ◌^◌, ◌≤◌, ◌<◌}
-use mathlib.Core.Bool.{Bool, true, false, cond}
-use mathlib.Core.List.{[], ◌∷◌, ◌++◌}
-use mathlib.Core.Path.{◌≡◌, refl, ap, ◌∙◌}
-use native.Mathlib.Nat.{one-le-pow, pow-le-pow_right}
-use native.Mathlib.Omega.{arith, pow_step}
-use borrow.Author.Tests.{leb-true, leb-false, ltb-true, ltb-false, lt-ltb}
-use lib.Dec.{leb, ltb}
-use Rattle.io.specs.Digits.{hex_digit_ascii, last_digits, IsDigitCount}
-use Rattle.text_buffer.specs.Filling.{decimal_up_to, decimal_of}
+-- A number's decimal digits, put down from the last one on: those still to be made and those that stand come to the whole.
+use Rattle.std.proofs.Common.{◌≡◌, ℕ, zero, suc, ◌+◌, ◌-◌, ◌/◌, ◌%◌, ◌≤◌, ◌<◌, List, [], ◌∷◌, ◌++◌, length, drop, set, ap, ◌∙◌, arith, append_assoc, add-one}
+use Rattle.std.proofs.lemmas.Bool.{lt-ltb, le-ltb}
+use Rattle.std.proofs.lemmas.List.{drop-set}
+use Rattle.text_buffer.specs.Filling.{decimal_up_to}
 
-last_digit : (n : ℕ) → hex_digit_ascii (n % 10) ≡ 48 + n % 10
-last_digit n = let small : n % 10 < 10 = omega arith in rw (lt-ltb (n % 10) 10 small)
+-- the digit before those that stand
+one_more : (f digit : ℕ) (digits : List ℕ) → f < length digits → drop f (set digits f digit) ≡ digit ∷ drop (suc f) digits
+one_more f digit digits inside = drop-set digits f digit inside ∙ ap (λ (n : ℕ). digit ∷ drop n digits) (add-one f)
 
--- with one digit less it would not be held
-holds : (k n : ℕ) → IsDigitCount 10 1 n (suc (suc k)) → 10 ^ suc k ≤ n
-holds k n few = let same : suc (suc k) - 1 ≡ suc k = omega arith in rw same at (few.2 (omega arith))
-
--- a number below 10 has one digit
-one_digit : (k n : ℕ) → n < 10 → IsDigitCount 10 1 n (suc k) → k ≡ 0
-one_digit zero n small few = refl
-one_digit (suc k) n small few = absurd (omega (arith, holds k n few, pow_step 10 k, one-le-pow k 10 (omega arith)))
-
--- the digits before the last are the fewest that hold the tenth part
-tenth : (k n : ℕ) → 10 ≤ n → IsDigitCount 10 1 n (suc k) → IsDigitCount 10 1 (n / 10) k
-tenth zero n large few = absurd (omega (arith, few.1, pow_step 10 0))
-tenth (suc k) n large few =
-    let same : suc k - 1 ≡ k = omega arith in
-    (omega arith, omega (arith, few.1, pow_step 10 (suc k)), λ h. rw same (omega (arith, holds k n few, pow_step 10 k)))
-
-fewest_digits : (count most n : ℕ) → IsDigitCount 10 1 n count → count ≤ most → last_digits 10 count n ≡ decimal_up_to most n
+pub last_of_many : (first n : ℕ) (digits : List ℕ) → 0 < first → first ≤ length digits → 10 ≤ n → decimal_up_to first n ++ drop first digits ≡ decimal_up_to (first - 1) (n / 10) ++ drop (first - 1) (set digits (first - 1) (48 + n % 10))
 unfolding decimal_up_to
-fewest_digits zero most n few room = absurd (omega arith)
-fewest_digits (suc k) zero n few room = absurd (omega arith)
-fewest_digits (suc k) (suc more) n few room = go (ltb n 10) refl (λ large. fewest_digits k more (n / 10) (tenth k n large few) (omega arith))
-  where
-    go : (b : Bool) → ltb n 10 ≡ b → (10 ≤ n → last_digits 10 k (n / 10) ≡ decimal_up_to more (n / 10)) → last_digits 10 k (n / 10) ++ (hex_digit_ascii (n % 10) ∷ []) ≡ cond b [] (decimal_up_to more (n / 10)) ++ ((48 + n % 10) ∷ [])
-    go true e before =
-        ap (λ (j : ℕ). last_digits 10 j (n / 10) ++ (hex_digit_ascii (n % 10) ∷ [])) (one_digit k n (ltb-true n 10 e) few)
-        ∙ ap (λ (d : ℕ). d ∷ []) (last_digit n)
-    go false e before = (λ j. before (ltb-false n 10 e) j ++ (last_digit n j ∷ []))
+last_of_many zero n digits some inside large = absurd (omega arith)
+last_of_many (suc f) n digits some inside large =
+    let same : suc f - 1 ≡ f = omega arith in
+    rw (same, le-ltb n 10 large, one_more f (48 + n % 10) digits (omega arith), append_assoc (decimal_up_to f (n / 10)) ((48 + n % 10) ∷ []) (drop (suc f) digits))
 
--- a number of 64 bits has at most 20 digits
-few_digits : (count n : ℕ) → IsDigitCount 10 1 n count → n < 2 ^ 64 → count ≤ 20
-few_digits count n few small = go (leb count 20) refl
-  where
-    go : (b : Bool) → leb count 20 ≡ b → count ≤ 20
-    go true e = leb-true count 20 e
-    go false e =
-        let many = leb-false count 20 e in
-        let held = few.2 (omega arith) in
-        let high : 10 ^ 20 ≤ 10 ^ (count - 1) = pow-le-pow_right {n = 10} (omega arith) {i = 20} {j = count - 1} (omega arith) in absurd (omega arith)
+pub only_one : (first n : ℕ) (digits : List ℕ) → 0 < first → first ≤ length digits → n < 10 → decimal_up_to first n ++ drop first digits ≡ drop (first - 1) (set digits (first - 1) (48 + n % 10))
+unfolding decimal_up_to
+only_one zero n digits some inside small = absurd (omega arith)
+only_one (suc f) n digits some inside small =
+    let same : suc f - 1 ≡ f = omega arith in
+    rw (same, lt-ltb n 10 small, one_more f (48 + n % 10) digits (omega arith))
 
-pub decimal_digits : (count n : ℕ) → IsDigitCount 10 1 n count → n < 2 ^ 64 → last_digits 10 count n ≡ decimal_of n
-unfolding decimal_of
-decimal_digits count n few small = fewest_digits count 20 n few (few_digits count n few small)
+-- none is left to be made
+pub all_made : (first n : ℕ) (digits : List ℕ) → first ≡ 0 → decimal_up_to first n ++ drop first digits ≡ digits
+unfolding decimal_up_to
+all_made first n digits none = rw none

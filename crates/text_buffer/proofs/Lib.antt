@@ -1,2 +1,3 @@
 mod DecimalLaws
 pub mod FillingLaws
+mod OutputLaws

@@ -1,5 +1,5 @@
 -- A buffer of bytes, of which the first are in use, and text put behind those.
-use Rattle.std.specs.Prelude.{ℕ, zero, suc, ◌+◌, ◌/◌, ◌%◌, cond, List, [], ◌∷◌, ◌++◌, ltb, length, set}
+use Rattle.std.specs.Prelude.{ℕ, zero, suc, ◌+◌, ◌/◌, ◌%◌, cond, List, [], ◌∷◌, ◌++◌, leb, ltb, length, set, take}
 
 -- how many bytes are in use, and all the bytes
 pub record Filled : Type 0 where
@@ -36,3 +36,11 @@ spaced n = 32 ∷ decimal_of n
 -- how many bytes are in use once there is room for a line: as many as before, or none, where the buffer had to be written
 unfoldable pub with_room : ℕ → ℕ → ℕ → ℕ
 with_room used size line = cond (ltb (used + line) size) used 0
+
+-- the bytes in use; none, where more are said to be in use than the buffer has
+unfoldable pub in_use : ℕ → List ℕ → List ℕ
+in_use used bytes = cond (leb used (length bytes)) (take used bytes) []
+
+-- what is written where room is made for a line: the bytes in use, or nothing where there is room
+unfoldable pub written_for_room : ℕ → List ℕ → ℕ → List ℕ
+written_for_room used bytes line = cond (ltb (used + line) (length bytes)) [] (in_use used bytes)

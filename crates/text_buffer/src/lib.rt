@@ -1,10 +1,13 @@
 // Text put together in a lent buffer. Each function takes how many bytes of the buffer are in use, and gives
 // how many are then. A byte for which there is no room is left out.
+#![tactic(auto)]
+
 pub mod output;
 
 ghost use Rattle.std.specs.Prelude.{◌≡◌};
 ghost use Rattle.text_buffer.specs.Filling.{filled_by, with_byte, with_bytes, decimal_of, spaced};
 
+#[tactic(auto, unfolding(crate::specs::Filling::with_byte))]
 pub fn byte(filled: usize, buffer: &mut [u8], byte: u8) -> usize
     ensures { filled_by result buffer.new ≡ with_byte (filled_by filled buffer.old) byte }
 {
@@ -15,6 +18,7 @@ pub fn byte(filled: usize, buffer: &mut [u8], byte: u8) -> usize
     filled
 }
 
+#[tactic(auto, unfolding(crate::specs::Filling::with_bytes))]
 pub fn text(filled: usize, buffer: &mut [u8], bytes: &[u8]) -> usize
     ensures { filled_by result buffer.new ≡ with_bytes (filled_by filled buffer.old) bytes.now }
 {
@@ -27,16 +31,27 @@ pub fn text(filled: usize, buffer: &mut [u8], bytes: &[u8]) -> usize
     after
 }
 
-// A number in decimal digits.
+// A number in decimal digits. They are made from the last one on.
 pub fn decimal(filled: usize, buffer: &mut [u8], n: u64) -> usize
     ensures { filled_by result buffer.new ≡ with_bytes (filled_by filled buffer.old) (decimal_of n) }
 {
+    // no number of 64 bits has more
     let mut digits = [0u8; 20];
-    let count = io::decimal(n, &mut digits);
-    text(filled, buffer, &digits[..count])
+    let mut first = 20;
+    let mut left = n;
+    while first > 0 {
+        first -= 1;
+        digits[first] = b'0' + (left % 10) as u8;
+        if left < 10 {
+            return text(filled, buffer, &digits[first..]);
+        }
+        left /= 10;
+    }
+    text(filled, buffer, &digits)
 }
 
 // A space and a number.
+#[tactic(auto, unfolding(crate::specs::Filling::spaced, crate::specs::Filling::with_bytes))]
 pub fn number(filled: usize, buffer: &mut [u8], n: u64) -> usize
     ensures { filled_by result buffer.new ≡ with_bytes (filled_by filled buffer.old) (spaced n) }
 {

@@ -1,25 +1,32 @@
-// A buffer on its way to standard output. What is written there is the C library's, and no contract says it.
-ghost use Rattle.std.specs.Prelude.{◌≡◌, length};
-ghost use Rattle.text_buffer.specs.Filling.{with_room};
+// A buffer on its way to a writer, as standard output. Of a writer that says which bytes it holds, as one to
+// memory does, the contracts tell which of the buffer's bytes it takes.
+ghost use Rattle.std.specs.Prelude.{◌≡◌, length, IfOk, OnOk};
+ghost use Rattle.std.specs.Io.KnownBytes.{Appends};
+ghost use Rattle.text_buffer.specs.Filling.{with_room, in_use, written_for_room};
+
+use std::io;
+use std::io::Write;
 
 // Writes the bytes in use; none is in use then.
-pub fn flush(filled: usize, buffer: &[u8]) -> usize
-    ensures { result ≡ 0 }
+pub fn flush<W: Write>(to: &mut W, filled: usize, buffer: &[u8]) -> io::Result<usize>
+    ensures used { IfOk result (λ used. used ≡ 0) }
+    ensures written { OnOk result (Appends (W.contents to.old) (W.contents to.new) (in_use filled buffer.now)) }
 {
     if filled <= buffer.len() {
-        io::write_all(libc::STDOUT_FILENO, &buffer[..filled]);
+        to.write_all(&buffer[..filled])?;
     }
-    0
+    Ok(0)
 }
 
 // Makes room for a line that has fewer bytes than `line`.
-pub fn room(filled: usize, buffer: &[u8], line: usize) -> usize
-    ensures { result ≡ with_room filled (length buffer.now) line }
+pub fn room<W: Write>(to: &mut W, filled: usize, buffer: &[u8], line: usize) -> io::Result<usize>
+    ensures used { IfOk result (λ used. used ≡ with_room filled (length buffer.now) line) }
+    ensures written { OnOk result (Appends (W.contents to.old) (W.contents to.new) (written_for_room filled buffer.now line)) }
 {
     if filled < buffer.len() {
         if line < buffer.len() - filled {
-            return filled;
+            return Ok(filled);
         }
     }
-    flush(filled, buffer)
+    flush(to, filled, buffer)
 }

@@ -1,25 +1,32 @@
 // The lines that the bench program prints. Each function gives how much of the buffer is in use.
-ghost use Rattle.std.specs.Prelude.{◌≡◌, length};
+#![tactic(auto)]
+
+ghost use Rattle.std.specs.Prelude.{◌≡◌, length, IfOk, OnOk};
+ghost use Rattle.std.specs.Io.KnownBytes.{Appends};
 ghost use Rattle.refusal.specs.Refusals.{number_of};
 ghost use Rattle.answers.specs.Answers.{paper_ending, paper_completion, paper_whole};
-ghost use Rattle.text_buffer.specs.Filling.{filled_by, with_bytes, with_room};
+ghost use Rattle.text_buffer.specs.Filling.{filled_by, with_bytes, with_room, written_for_room};
 ghost use Rattle.bench_lines.specs.Printed.{refusal_shown, ending_shown, completion_shown, operation_line, unreadable_line, panel_line, refused_panel_line, last_line};
 
 use answers::{Completion, Ending, WholeAnswer};
 use refusal::Refusal;
+use std::io;
+use std::io::Write;
 use text_buffer::{byte, line_end, number, text};
 
 // A line has fewer bytes.
 const LINE: usize = 128;
 
 // Makes room for a line.
-pub fn room(filled: usize, out: &[u8]) -> usize
-    ensures { result ≡ with_room filled (length out.now) 128 }
+pub fn room<W: Write>(to: &mut W, filled: usize, out: &[u8]) -> io::Result<usize>
+    ensures used { IfOk result (λ used. used ≡ with_room filled (length out.now) 128) }
+    ensures written { OnOk result (Appends (W.contents to.old) (W.contents to.new) (written_for_room filled out.now 128)) }
 {
-    text_buffer::output::room(filled, out, LINE)
+    text_buffer::output::room(to, filled, out, LINE)
 }
 
 // "The first line shows m and k".
+#[tactic(auto, unfolding(crate::specs::Printed::panel_line))]
 pub fn panel(filled: usize, out: &mut [u8], m: u32, k: u32) -> usize
     ensures { filled_by result out.new ≡ with_bytes (filled_by filled out.old) (panel_line m k) }
 {
@@ -29,6 +36,7 @@ pub fn panel(filled: usize, out: &mut [u8], m: u32, k: u32) -> usize
 }
 
 // "A first line that is missing, unreadable or refused prints "panel ! 1"".
+#[tactic(auto, unfolding(crate::specs::Printed::refused_panel_line))]
 pub fn panel_refused(filled: usize, out: &mut [u8]) -> usize
     ensures { filled_by result out.new ≡ with_bytes (filled_by filled out.old) refused_panel_line }
 {
@@ -36,6 +44,7 @@ pub fn panel_refused(filled: usize, out: &mut [u8]) -> usize
 }
 
 // "A line it cannot read prints "?", a space and the line's number".
+#[tactic(auto, unfolding(crate::specs::Printed::unreadable_line))]
 pub fn unreadable(filled: usize, out: &mut [u8], line: u64) -> usize
     ensures { filled_by result out.new ≡ with_bytes (filled_by filled out.old) (unreadable_line line) }
 {
@@ -43,6 +52,7 @@ pub fn unreadable(filled: usize, out: &mut [u8], line: u64) -> usize
 }
 
 // ""!" and a number a refusal, in place of what follows the point".
+#[tactic(auto, unfolding(crate::specs::Printed::refusal_shown))]
 fn refused(filled: usize, out: &mut [u8], refusal: Refusal) -> usize
     ensures { filled_by result out.new ≡ with_bytes (filled_by filled out.old) (refusal_shown (number_of refusal)) }
 {
@@ -50,6 +60,7 @@ fn refused(filled: usize, out: &mut [u8], refusal: Refusal) -> usize
 }
 
 // "P shows point, slot, index"; "L point and value"; "R point and reach after".
+#[tactic(auto, unfolding(crate::specs::Printed::ending_shown))]
 fn ended(filled: usize, out: &mut [u8], ending: Ending) -> usize
     ensures { filled_by result out.new ≡ with_bytes (filled_by filled out.old) (ending_shown (paper_ending ending)) }
 {
@@ -67,6 +78,7 @@ fn ended(filled: usize, out: &mut [u8], ending: Ending) -> usize
 }
 
 // "the bench prints it last on P, L and R lines": the number of steps.
+#[tactic(auto, unfolding(crate::specs::Printed::completion_shown))]
 fn completed(filled: usize, out: &mut [u8], completion: Completion) -> usize
     ensures { filled_by result out.new ≡ with_bytes (filled_by filled out.old) (completion_shown (paper_completion completion)) }
 {
@@ -76,6 +88,7 @@ fn completed(filled: usize, out: &mut [u8], completion: Completion) -> usize
 }
 
 // The line of an operation: its letter, the point, and what it came to.
+#[tactic(auto, unfolding(crate::specs::Printed::answer_shown))]
 pub fn operation(
     filled: usize,
     out: &mut [u8],
@@ -93,6 +106,7 @@ pub fn operation(
 }
 
 // "the last, at the end of input, the reach and the number of stored points".
+#[tactic(auto, unfolding(crate::specs::Printed::last_line))]
 pub fn finish(filled: usize, out: &mut [u8], reach: u32, points: u64) -> usize
     ensures { filled_by result out.new ≡ with_bytes (filled_by filled out.old) (last_line reach points) }
 {

@@ -2,60 +2,61 @@
 use crate::operations::words;
 use crate::printing::{line_end, number, refused, text};
 use answers::FreshAnswer;
+use std::io;
 
-pub(crate) fn run() {
-    three_slots();
-    four_slots();
-    large();
+pub(crate) fn run(rt: &impl Print) -> io::Result<()> {
+    three_slots(rt)?;
+    four_slots(rt)?;
+    large(rt)
 }
 
-fn three_slots() {
+fn three_slots(rt: &impl Print) -> io::Result<()> {
     let mut slots = [7u64; 3];
-    fresh(&mut slots, 4, 4);
+    fresh(rt, &mut slots, 4, 4)
 }
 
-fn four_slots() {
+fn four_slots(rt: &impl Print) -> io::Result<()> {
     let mut slots = [7u64; 4];
-    over(&mut slots);
+    over(rt, &mut slots)
 }
 
-fn over(slots: &mut [u64]) {
-    fresh(slots, 3, 4);
-    fresh(slots, 5, 4);
-    fresh(slots, 4, 1);
+fn over(rt: &impl Print, slots: &mut [u64]) -> io::Result<()> {
+    fresh(rt, slots, 3, 4)?;
+    fresh(rt, slots, 5, 4)?;
+    fresh(rt, slots, 4, 1)
 }
 
-fn fresh(slots: &mut [u64], m: u32, k: u32) {
-    made(slots, m, k);
-    text(b" slots");
-    words(slots);
-    line_end();
+fn fresh(rt: &impl Print, slots: &mut [u64], m: u32, k: u32) -> io::Result<()> {
+    made(rt, slots, m, k)?;
+    text(rt, b" slots")?;
+    words(rt, slots)?;
+    line_end(rt)
 }
 
-fn made(slots: &mut [u64], m: u32, k: u32) {
-    text(b"fresh");
-    number(m);
-    number(k);
-    text(b":");
+fn made(rt: &impl Print, slots: &mut [u64], m: u32, k: u32) -> io::Result<()> {
+    text(rt, b"fresh")?;
+    number(rt, m)?;
+    number(rt, k)?;
+    text(rt, b":")?;
     let made = fresh_panel::fresh(slots, m, k);
     let answer = made.answer;
     let panel = made.panel;
-    fresh_answer(answer);
-    number(panel.m);
-    number(panel.k);
-    number(panel.reach);
+    fresh_answer(rt, answer)?;
+    number(rt, panel.m)?;
+    number(rt, panel.k)?;
+    number(rt, panel.reach)
 }
 
-fn fresh_answer(answer: FreshAnswer) {
+fn fresh_answer(rt: &impl Print, answer: FreshAnswer) -> io::Result<()> {
     match answer {
-        FreshAnswer::Made => text(b" made"),
-        FreshAnswer::Refused(r) => refused(r),
+        FreshAnswer::Made => text(rt, b" made"),
+        FreshAnswer::Refused(r) => refused(rt, r),
     }
 }
 
 // One slot more than a panel may have.
-fn large() {
+fn large(rt: &impl Print) -> io::Result<()> {
     let mut slots = [7u64; 4097];
-    made(&mut slots, 4097, 64);
-    line_end();
+    made(rt, &mut slots, 4097, 64)?;
+    line_end(rt)
 }

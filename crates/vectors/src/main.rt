@@ -13,30 +13,35 @@ mod writer_refusals;
 
 use crate::printing::{line_end, number, refusal, text};
 use refusal::Refusal;
+use std::io;
 
-fn main() {
-    generator();
-    unseen_word();
-    fresh::run();
-    readers::run();
-    ranges::run();
-    disabled::run();
-    writer_refusals::run();
-    unreached::run();
-    list::run();
+fn main(rt: HostRuntime) -> io::Result<()> {
+    run(&rt)
+}
+
+fn run(rt: &impl Print) -> io::Result<()> {
+    generator(rt)?;
+    unseen_word(rt)?;
+    fresh::run(rt)?;
+    readers::run(rt)?;
+    ranges::run(rt)?;
+    disabled::run(rt)?;
+    writer_refusals::run(rt)?;
+    unreached::run(rt)?;
+    list::run(rt)
 }
 
 // The published check z(10000).
-fn generator() {
-    text(b"z");
-    number(10000);
-    number(hash::generated(10000));
-    line_end();
+fn generator(rt: &impl Print) -> io::Result<()> {
+    text(rt, b"z")?;
+    number(rt, 10000)?;
+    number(rt, hash::generated(10000))?;
+    line_end(rt)
 }
 
 // The one word of the refusal table that no call of a history is refused with.
-fn unseen_word() {
-    text(b"refusal");
-    refusal(Refusal::Short);
-    line_end();
+fn unseen_word(rt: &impl Print) -> io::Result<()> {
+    text(rt, b"refusal")?;
+    refusal(rt, Refusal::Short)?;
+    line_end(rt)
 }

@@ -1,37 +1,36 @@
 // Parts of the printed lines.
 use refusal::Refusal;
+use std::io;
 
-pub(crate) fn text(bytes: &[u8]) {
-    io::write_all(1, bytes);
+pub(crate) fn text(rt: &impl Print, bytes: &[u8]) -> io::Result<()> {
+    rt.write_all(bytes)
 }
 
-pub(crate) fn number(n: u32) {
-    text(b" ");
-    io::print_decimal(1, n as u64);
+pub(crate) fn number(rt: &impl Print, n: u32) -> io::Result<()> {
+    print!(rt; " {n}")
 }
 
-pub(crate) fn line_end() {
-    text(b"\n");
+pub(crate) fn line_end(rt: &impl Print) -> io::Result<()> {
+    text(rt, b"\n")
 }
 
 // A number of 64 bits.
-pub(crate) fn word(n: u64) {
-    text(b" ");
-    io::print_decimal(1, n);
+pub(crate) fn word(rt: &impl Print, n: u64) -> io::Result<()> {
+    print!(rt; " {n}")
 }
 
 // A refusal as an answer.
-pub(crate) fn refused(r: Refusal) {
-    text(b" !");
-    refusal(r);
+pub(crate) fn refused(rt: &impl Print, r: Refusal) -> io::Result<()> {
+    text(rt, b" !")?;
+    refusal(rt, r)
 }
 
 // A refusal's number and word.
-pub(crate) fn refusal(r: Refusal) {
-    number(r.number());
+pub(crate) fn refusal(rt: &impl Print, r: Refusal) -> io::Result<()> {
+    number(rt, r.number())?;
     let spelt = r.word();
     let letters = spelt.letters;
     let length = spelt.length;
-    text(b" ");
-    text(&letters[..length]);
+    text(rt, b" ")?;
+    text(rt, &letters[..length])
 }

@@ -9,6 +9,7 @@ use record::{
     Alteration, Change, ChangeStage, Command, CommandAnswer, Lookup, Masks, Place, Probe, Put,
     PutStage, ReaderWork, Record, Removal, RemovalStage, Search, Station, Walk, WriterWork,
 };
+use std::io;
 
 // A fresh record of 8 slots and 4 functions with one field altered, by numbers that the field has then.
 // What is not named is in range.
@@ -126,22 +127,23 @@ const CASES: [Altered; 73] = [
     Altered::Station(32, 0, 0, 3),
 ];
 
-pub(crate) fn run() {
+pub(crate) fn run(rt: &impl Print) -> io::Result<()> {
     for row in 0..73u32 {
-        judged(row, CASES[row as usize]);
+        judged(rt, row, CASES[row as usize])?;
     }
+    Ok(())
 }
 
 // What the start of reader 15's walk is answered, with 8 slots.
-fn judged(row: u32, altered: Altered) {
+fn judged(rt: &impl Print, row: u32, altered: Altered) -> io::Result<()> {
     let slots = [0u64; 8];
-    text(b"range");
-    number(row);
-    text(b":");
+    text(rt, b"range")?;
+    number(rt, row)?;
+    text(rt, b":")?;
     let begun = start_walk(record_with(altered), &slots, 15);
     let answer = begun.answer;
-    start_answer(answer);
-    line_end();
+    start_answer(rt, answer)?;
+    line_end(rt)
 }
 
 fn record_with(altered: Altered) -> Record {

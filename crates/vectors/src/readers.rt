@@ -7,25 +7,26 @@ use reader_step::step_reader;
 use record::parts::{fresh_record, with_reach, with_work};
 use record::{Lookup, ReaderWork, Record, Search};
 use slot_words::word::word_of;
+use std::io;
 
-pub(crate) fn run() {
+pub(crate) fn run(rt: &impl Print) -> io::Result<()> {
     let slots = stored();
-    over(&slots);
-    short_of_a_slot();
-    nobodys_points();
-    at_its_bound();
-    one_slot();
+    over(rt, &slots)?;
+    short_of_a_slot(rt)?;
+    nobodys_points(rt)?;
+    at_its_bound(rt)?;
+    one_slot(rt)
 }
 
-fn over(slots: &[u64]) {
-    below_the_reach(slots);
-    refusals(panel_of(5), slots);
-    refusals(panel_of(3), slots);
+fn over(rt: &impl Print, slots: &[u64]) -> io::Result<()> {
+    below_the_reach(rt, slots)?;
+    refusals(rt, panel_of(5), slots)?;
+    refusals(rt, panel_of(3), slots)
 }
 
-fn short_of_a_slot() {
+fn short_of_a_slot(rt: &impl Print) -> io::Result<()> {
     let slots = [0u64; 7];
-    refusals(panel_of(3), &slots);
+    refusals(rt, panel_of(3), &slots)
 }
 
 // A panel of 8 slots and 4 functions with this reach, everyone idle.
@@ -42,102 +43,114 @@ fn stored() -> [u64; 8] {
     slots
 }
 
-pub(crate) fn start_answer(answer: StartAnswer) {
+pub(crate) fn start_answer(rt: &impl Print, answer: StartAnswer) -> io::Result<()> {
     match answer {
-        StartAnswer::Started => text(b" started"),
-        StartAnswer::Refused(r) => refused(r),
+        StartAnswer::Started => text(rt, b" started"),
+        StartAnswer::Refused(r) => refused(rt, r),
     }
 }
 
-fn step(panel: Record, slots: &[u64], reader: u32) -> Record {
+fn step(rt: &impl Print, panel: Record, slots: &[u64], reader: u32) -> io::Result<Record> {
     let stepped = step_reader(panel, slots, reader);
     let answer = stepped.answer;
-    step_answer(answer);
-    stepped.panel
+    step_answer(rt, answer)?;
+    Ok(stepped.panel)
 }
 
-fn steps(panel: Record, slots: &[u64], reader: u32, count: u32) {
+fn steps(rt: &impl Print, panel: Record, slots: &[u64], reader: u32, count: u32) -> io::Result<()> {
     let mut now = panel;
     for _ in 0..count {
-        now = step(now, slots, reader);
+        now = step(rt, now, slots, reader)?;
     }
-    line_end();
+    line_end(rt)
 }
 
-fn begin_lookup(panel: Record, slots: &[u64], reader: u32, point: u32) -> Record {
-    text(b"lookup");
-    number(reader);
-    number(point);
-    text(b":");
+fn begin_lookup(
+    rt: &impl Print,
+    panel: Record,
+    slots: &[u64],
+    reader: u32,
+    point: u32,
+) -> io::Result<Record> {
+    text(rt, b"lookup")?;
+    number(rt, reader)?;
+    number(rt, point)?;
+    text(rt, b":")?;
     let begun = start_lookup(panel, slots, reader, point);
     let answer = begun.answer;
-    start_answer(answer);
-    begun.panel
+    start_answer(rt, answer)?;
+    Ok(begun.panel)
 }
 
-fn begin_walk(panel: Record, slots: &[u64], reader: u32) -> Record {
-    text(b"walk");
-    number(reader);
-    text(b":");
+fn begin_walk(rt: &impl Print, panel: Record, slots: &[u64], reader: u32) -> io::Result<Record> {
+    text(rt, b"walk")?;
+    number(rt, reader)?;
+    text(rt, b":")?;
     let begun = start_walk(panel, slots, reader);
     let answer = begun.answer;
-    start_answer(answer);
-    begun.panel
+    start_answer(rt, answer)?;
+    Ok(begun.panel)
 }
 
 // A lookup, with steps behind its end.
-fn lookup(panel: Record, slots: &[u64], point: u32) {
-    steps(begin_lookup(panel, slots, 0, point), slots, 0, 6);
+fn lookup(rt: &impl Print, panel: Record, slots: &[u64], point: u32) -> io::Result<()> {
+    steps(rt, begin_lookup(rt, panel, slots, 0, point)?, slots, 0, 6)
 }
 
 // Points are stored above the reach, and none up to it.
-fn below_the_reach(slots: &[u64]) {
-    lookup(panel_of(2), slots, 17);
-    lookup(panel_of(0), slots, 1);
-    lookup(panel_of(4), slots, 2147483646);
+fn below_the_reach(rt: &impl Print, slots: &[u64]) -> io::Result<()> {
+    lookup(rt, panel_of(2), slots, 17)?;
+    lookup(rt, panel_of(0), slots, 1)?;
+    lookup(rt, panel_of(4), slots, 2147483646)
 }
 
 // Words whose upper half is no valid point match no point.
-fn nobodys_points() {
+fn nobodys_points(rt: &impl Print) -> io::Result<()> {
     let mut slots = [0u64; 8];
     slots[0] = word_of(0, 5);
     slots[4] = word_of(2147483647, 5);
     slots[2] = word_of(4294967295, 5);
-    no_match(&slots);
+    no_match(rt, &slots)
 }
 
-fn no_match(slots: &[u64]) {
-    lookup(panel_of(4), slots, 1);
-    lookup(panel_of(4), slots, 9);
+fn no_match(rt: &impl Print, slots: &[u64]) -> io::Result<()> {
+    lookup(rt, panel_of(4), slots, 1)?;
+    lookup(rt, panel_of(4), slots, 9)
 }
 
 // A lookup that counts as many steps as it may take before its first: the count stays.
-fn at_its_bound() {
+fn at_its_bound(rt: &impl Print) -> io::Result<()> {
     let work = ReaderWork::LookingUp(Lookup {
         point: 17,
         search: Search::Unread,
         steps: 5,
     });
-    text(b"lookup at its bound:");
-    steps(with_work(panel_of(3), 0, work), &stored(), 0, 6);
+    text(rt, b"lookup at its bound:")?;
+    steps(rt, with_work(panel_of(3), 0, work), &stored(), 0, 6)
 }
 
 // A walk over a slot that is all ones.
-fn one_slot() {
+fn one_slot(rt: &impl Print) -> io::Result<()> {
     let slots = [18446744073709551615u64; 1];
-    only_step(&slots);
+    only_step(rt, &slots)
 }
 
-fn only_step(slots: &[u64]) {
-    steps(begin_walk(fresh_record(1, 1), slots, 7), slots, 7, 2);
+fn only_step(rt: &impl Print, slots: &[u64]) -> io::Result<()> {
+    steps(
+        rt,
+        begin_walk(rt, fresh_record(1, 1), slots, 7)?,
+        slots,
+        7,
+        2,
+    )
 }
 
 // Each call with the faults that are judged behind refusal 1.
-fn refusals(panel: Record, slots: &[u64]) {
-    begin_lookup(panel, slots, 16, 0);
-    line_end();
-    begin_walk(panel, slots, 4294967295);
-    line_end();
-    text(b"step:");
-    steps(panel, slots, 16, 1);
+fn refusals(rt: &impl Print, panel: Record, slots: &[u64]) -> io::Result<()> {
+    begin_lookup(rt, panel, slots, 16, 0)?;
+    line_end(rt)?;
+    begin_walk(rt, panel, slots, 4294967295)?;
+    line_end(rt)?;
+    text(rt, b"step:")?;
+    steps(rt, panel, slots, 16, 1)
 }

@@ -3,49 +3,53 @@
 use crate::operations::{begin_change, begin_put, begin_removal, finish, panel_over, step};
 use record::Record;
 use record::parts::with_reach;
+use std::io;
 
-pub(crate) fn run() {
+pub(crate) fn run(rt: &impl Print) -> io::Result<()> {
     let mut slots = [0u64; 8];
-    let engaged = over(&mut slots);
-    short_of_a_slot(engaged);
+    let engaged = over(rt, &mut slots)?;
+    short_of_a_slot(rt, engaged)
 }
 
-fn over(slots: &mut [u64]) -> Record {
-    let idle = panel_over(slots, 8, 4);
-    steps(idle, slots);
-    engaged_writer(idle, slots)
+fn over(rt: &impl Print, slots: &mut [u64]) -> io::Result<Record> {
+    let idle = panel_over(rt, slots, 8, 4)?;
+    steps(rt, idle, slots)?;
+    engaged_writer(rt, idle, slots)
 }
 
-fn engaged_writer(idle: Record, slots: &mut [u64]) -> Record {
-    let begun = begin_put(idle, slots, 9, 6);
-    let engaged = step(begun, slots);
-    all_starts(engaged, slots);
-    finish(engaged, slots);
-    engaged
+fn engaged_writer(rt: &impl Print, idle: Record, slots: &mut [u64]) -> io::Result<Record> {
+    let begun = begin_put(rt, idle, slots, 9, 6)?;
+    let engaged = step(rt, begun, slots)?;
+    all_starts(rt, engaged, slots)?;
+    finish(rt, engaged, slots)?;
+    Ok(engaged)
 }
 
-fn steps(idle: Record, slots: &mut [u64]) {
-    step(with_reach(idle, 5), slots);
-    step(idle, slots);
+fn steps(rt: &impl Print, idle: Record, slots: &mut [u64]) -> io::Result<()> {
+    step(rt, with_reach(idle, 5), slots)?;
+    step(rt, idle, slots)?;
+    Ok(())
 }
 
-fn all_starts(engaged: Record, slots: &[u64]) {
-    starts(with_reach(engaged, 5), slots);
-    starts(engaged, slots);
+fn all_starts(rt: &impl Print, engaged: Record, slots: &[u64]) -> io::Result<()> {
+    starts(rt, with_reach(engaged, 5), slots)?;
+    starts(rt, engaged, slots)
 }
 
-fn short_of_a_slot(engaged: Record) {
+fn short_of_a_slot(rt: &impl Print, engaged: Record) -> io::Result<()> {
     let mut slots = [0u64; 7];
-    refused(engaged, &mut slots);
+    refused(rt, engaged, &mut slots)
 }
 
-fn refused(engaged: Record, slots: &mut [u64]) {
-    starts(engaged, slots);
-    step(engaged, slots);
+fn refused(rt: &impl Print, engaged: Record, slots: &mut [u64]) -> io::Result<()> {
+    starts(rt, engaged, slots)?;
+    step(rt, engaged, slots)?;
+    Ok(())
 }
 
-fn starts(panel: Record, slots: &[u64]) {
-    begin_put(panel, slots, 0, 1);
-    begin_change(panel, slots, 0, 2, 3);
-    begin_removal(panel, slots, 0);
+fn starts(rt: &impl Print, panel: Record, slots: &[u64]) -> io::Result<()> {
+    begin_put(rt, panel, slots, 0, 1)?;
+    begin_change(rt, panel, slots, 0, 2, 3)?;
+    begin_removal(rt, panel, slots, 0)?;
+    Ok(())
 }

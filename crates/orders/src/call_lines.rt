@@ -3,32 +3,36 @@ use crate::answer_texts::{answer_text, refused_text};
 use crate::output::{number, room};
 use answers::{CallAnswer, FreshAnswer};
 use calls::Call;
+use std::io;
+use std::io::Write;
 use text_buffer::{byte, decimal, line_end, text};
 
-pub(crate) fn call_line(
+pub(crate) fn call_line<W: Write>(
+    to: &mut W,
     filled: usize,
     out: &mut [u8],
     line: u64,
     call: Call,
     frame: &[u8],
     answer: CallAnswer,
-) -> usize {
-    let numbered = decimal(room(filled, out), out, line);
+) -> io::Result<usize> {
+    let numbered = decimal(room(to, filled, out)?, out, line);
     let named = call_text(numbered, out, call, frame);
-    line_end(answer_text(text(named, out, b": "), out, answer), out)
+    Ok(line_end(answer_text(text(named, out, b": "), out, answer), out))
 }
 
-pub(crate) fn panel_line(
+pub(crate) fn panel_line<W: Write>(
+    to: &mut W,
     filled: usize,
     out: &mut [u8],
     line: u64,
     m: u32,
     k: u32,
     answer: FreshAnswer,
-) -> usize {
-    let numbered = decimal(room(filled, out), out, line);
+) -> io::Result<usize> {
+    let numbered = decimal(room(to, filled, out)?, out, line);
     let named = two_numbers(numbered, out, b" panel", m, k);
-    line_end(made_text(text(named, out, b": "), out, answer), out)
+    Ok(line_end(made_text(text(named, out, b": "), out, answer), out))
 }
 
 fn made_text(filled: usize, out: &mut [u8], answer: FreshAnswer) -> usize {

@@ -1,5 +1,8 @@
-// Standard input, a buffer at a time, and its lines.
+// The input, a buffer at a time, and its lines.
 ghost use Rattle.std.specs.Prelude.{◌≤◌, length as size};
+
+use std::io;
+use std::io::Read;
 
 // The longest line, without its LF.
 const LINE: usize = 256;
@@ -15,10 +18,9 @@ pub(crate) struct Part {
     pub next: usize,
 }
 
-// One read of standard input; 0 at its end.
-pub(crate) fn read(bytes: &mut [u8]) -> usize {
-    let got = libc::read(libc::STDIN_FILENO, bytes);
-    io::count(got, bytes)
+// One read of the input; 0 at its end.
+pub(crate) fn read<R: Read>(from: &mut R, bytes: &mut [u8]) -> io::Result<usize> {
+    from.read(bytes)
 }
 
 // The line goes on with the bytes of the buffer from `from` on, up to its LF.

@@ -17,40 +17,70 @@ use input::{next_part, read};
 use lines::{Run, run_line};
 use panel_and_list::opened;
 use record::parts::fresh_record;
+use std::io;
+use std::io::{Read, Write};
 use text_buffer::output::flush;
 
-fn main() {
+// What is read and what is written goes in parts of this size.
+const BUFFER: usize = 65536;
+
+fn main(rt: HostRuntime) -> io::Result<()> {
     let mut slots = [0u64; 4096];
-    with_list(&mut slots);
+    with_list(&mut rt.stdin(), &mut rt.stdout(), &mut slots)
 }
 
 // A row's place is a slot of its own, so the list has no more rows than there are slots.
-fn with_list(slots: &mut [u64]) {
+fn with_list<R: Read, W: Write>(from: &mut R, to: &mut W, slots: &mut [u64]) -> io::Result<()> {
     let mut words = [0u64; 4096];
     let mut places = [0u32; 4096];
-    with_input(slots, &mut words, &mut places);
+    with_input(from, to, slots, &mut words, &mut places)
 }
 
-fn with_input(slots: &mut [u64], words: &mut [u64], places: &mut [u32]) {
-    let mut bytes = io::large_buffer();
-    with_output(slots, words, places, &mut bytes);
+fn with_input<R: Read, W: Write>(
+    from: &mut R,
+    to: &mut W,
+    slots: &mut [u64],
+    words: &mut [u64],
+    places: &mut [u32],
+) -> io::Result<()> {
+    let mut bytes = [0u8; BUFFER];
+    with_output(from, to, slots, words, places, &mut bytes)
 }
 
-fn with_output(slots: &mut [u64], words: &mut [u64], places: &mut [u32], bytes: &mut [u8]) {
-    let mut out = io::large_buffer();
-    run_program(slots, words, places, bytes, &mut out);
+fn with_output<R: Read, W: Write>(
+    from: &mut R,
+    to: &mut W,
+    slots: &mut [u64],
+    words: &mut [u64],
+    places: &mut [u32],
+    bytes: &mut [u8],
+) -> io::Result<()> {
+    let mut out = [0u8; BUFFER];
+    run_program(from, to, slots, words, places, bytes, &mut out)
 }
 
-fn run_program(
+fn run_program<R: Read, W: Write>(
+    from: &mut R,
+    to: &mut W,
     slots: &mut [u64],
     words: &mut [u64],
     places: &mut [u32],
     bytes: &mut [u8],
     out: &mut [u8],
-) {
+) -> io::Result<()> {
     let mut line = [0u8; 256];
-    let ended = run_input(begin(), slots, words, places, bytes, &mut line, out);
-    finish(ended, slots, words, places, &line, out);
+    let ended = run_input(
+        from,
+        to,
+        begin(),
+        slots,
+        words,
+        places,
+        bytes,
+        &mut line,
+        out,
+    )?;
+    finish(to, ended, slots, words, places, &line, out)
 }
 
 // No panel, and no line.
@@ -73,9 +103,10 @@ struct Progress {
     length: usize,
 }
 
-// Such a loop has to end, and nothing says that the input does: it counts its iterations down, from a number
-// that no run uses up.
-fn run_input(
+// To the end of the input. Nothing says that it comes, so the loop has a bound, which no run reaches.
+fn run_input<R: Read, W: Write>(
+    from: &mut R,
+    to: &mut W,
     begun: Progress,
     slots: &mut [u64],
     words: &mut [u64],
@@ -83,22 +114,21 @@ fn run_input(
     bytes: &mut [u8],
     line: &mut [u8],
     out: &mut [u8],
-) -> Progress {
+) -> io::Result<Progress> {
     let mut now = begun;
-    let mut iterations = u64::MAX;
-    while iterations > 0 {
-        let count = read(bytes);
+    for _ in 0..u64::MAX {
+        let count = read(from, bytes)?;
         if count == 0 {
-            return now;
+            return Ok(now);
         }
-        now = run_lines(now, count, slots, words, places, bytes, line, out);
-        iterations -= 1;
+        now = run_lines(to, now, count, slots, words, places, bytes, line, out)?;
     }
-    now
+    Ok(now)
 }
 
 // The lines that end in the buffer.
-fn run_lines(
+fn run_lines<W: Write>(
+    to: &mut W,
     begun: Progress,
     count: usize,
     slots: &mut [u64],
@@ -107,38 +137,38 @@ fn run_lines(
     bytes: &[u8],
     line: &mut [u8],
     out: &mut [u8],
-) -> Progress {
+) -> io::Result<Progress> {
     let mut now = begun.run;
     let mut part = next_part(bytes, 0, count, line, begun.length);
-    let mut iterations = u64::MAX;
-    while iterations > 0 {
+    for _ in 0..u64::MAX {
         if !part.is_whole {
             break;
         }
-        now = run_line(now, line, part.length, slots, words, places, out);
+        now = run_line(to, now, line, part.length, slots, words, places, out)?;
         part = next_part(bytes, part.next, count, line, 0);
-        iterations -= 1;
     }
-    Progress {
+    Ok(Progress {
         run: now,
         length: part.length,
-    }
+    })
 }
 
 // The input has ended. What follows the last LF is a line only if it is not empty.
-fn finish(
+fn finish<W: Write>(
+    to: &mut W,
     ended: Progress,
     slots: &mut [u64],
     words: &mut [u64],
     places: &mut [u32],
     line: &[u8],
     out: &mut [u8],
-) {
+) -> io::Result<()> {
     let now = ended.run;
     if ended.length == 0 {
-        flush(now.filled, out);
-        return;
+        flush(to, now.filled, out)?;
+        return Ok(());
     }
-    let last = run_line(now, line, ended.length, slots, words, places, out);
-    flush(last.filled, out);
+    let last = run_line(to, now, line, ended.length, slots, words, places, out)?;
+    flush(to, last.filled, out)?;
+    Ok(())
 }

@@ -1,23 +1,36 @@
 // The messages about lines that are not carried out.
 use crate::faults::{Argument, Fault};
 use crate::output::room;
+use std::io;
+use std::io::Write;
 use text_buffer::{decimal, line_end, text};
 
-pub(crate) fn unreadable(filled: usize, out: &mut [u8], line: u64, fault: Fault) -> usize {
-    let named = text(line_text(filled, out, line), out, b"cannot be read: ");
-    line_end(fault_text(named, out, fault), out)
+pub(crate) fn unreadable<W: Write>(
+    to: &mut W,
+    filled: usize,
+    out: &mut [u8],
+    line: u64,
+    fault: Fault,
+) -> io::Result<usize> {
+    let named = text(line_text(to, filled, out, line)?, out, b"cannot be read: ");
+    Ok(line_end(fault_text(named, out, fault), out))
 }
 
-pub(crate) fn panel_missing(filled: usize, out: &mut [u8], line: u64) -> usize {
-    line_end(
-        text(line_text(filled, out, line), out, b"panel missing"),
+pub(crate) fn panel_missing<W: Write>(
+    to: &mut W,
+    filled: usize,
+    out: &mut [u8],
+    line: u64,
+) -> io::Result<usize> {
+    Ok(line_end(
+        text(line_text(to, filled, out, line)?, out, b"panel missing"),
         out,
-    )
+    ))
 }
 
-fn line_text(filled: usize, out: &mut [u8], line: u64) -> usize {
-    let named = text(room(filled, out), out, b"line ");
-    text(decimal(named, out, line), out, b": ")
+fn line_text<W: Write>(to: &mut W, filled: usize, out: &mut [u8], line: u64) -> io::Result<usize> {
+    let named = text(room(to, filled, out)?, out, b"line ");
+    Ok(text(decimal(named, out, line), out, b": "))
 }
 
 fn fault_text(filled: usize, out: &mut [u8], fault: Fault) -> usize {

@@ -1,4 +1,6 @@
 // Numbers and lines of the output.
+use std::io;
+use std::io::Write;
 
 // A line has fewer bytes.
 const LINE: usize = 256;
@@ -9,6 +11,6 @@ pub(crate) fn number(filled: usize, out: &mut [u8], n: u32) -> usize {
 }
 
 // Makes room for a line.
-pub(crate) fn room(filled: usize, out: &[u8]) -> usize {
-    text_buffer::output::room(filled, out, LINE)
+pub(crate) fn room<W: Write>(to: &mut W, filled: usize, out: &[u8]) -> io::Result<usize> {
+    text_buffer::output::room(to, filled, out, LINE)
 }

@@ -1,15 +1,18 @@
 // The lines behind the first, each run to its end.
-ghost use Rattle.std.specs.Prelude.{◌≡◌, length};
+ghost use Rattle.std.specs.Prelude.{◌≡◌, length, IfOk, OnOk, OnErr};
+ghost use Rattle.std.specs.Io.KnownBytes.{Appends};
 ghost use Rattle.record.specs.declared.Record.{Record};
 ghost use Rattle.whole_operations.specs.Whole.{leaves, paper_written, record_after};
 ghost use Rattle.line.specs.LineState.{command_of};
-ghost use Rattle.text_buffer.specs.Filling.{filled_by, with_bytes, with_room};
+ghost use Rattle.text_buffer.specs.Filling.{filled_by, with_bytes, with_room, written_for_room};
 ghost use Rattle.bench_lines.specs.Printed.{operation_line};
 ghost use Rattle.bench.specs.Lines.{Runs};
 
 use answers::WholeAnswer;
 use line::{CommandLine, Line};
 use record::Record;
+use std::io;
+use std::io::Write;
 use whole_operations::{Changes, Written, whole_lookup, whole_put, whole_removal};
 
 // What a line changes in the record, and how much of the output's buffer is in use.
@@ -64,19 +67,38 @@ fn wrote(
     }
 }
 
-// Runs the line of this number, behind as much output as the buffer holds.
-pub(crate) fn run_line(
+// Runs the line of this number, behind as much output as the buffer holds. Where the output takes none of that, the
+// line is not run.
+pub(crate) fn run_line<W: Write>(
+    to: &mut W,
     panel: Record,
     slots: &mut [u64],
     line: Line,
     number: u64,
     held: usize,
     text: &mut [u8],
+) -> io::Result<Done>
+    ensures ran { IfOk result (λ done. Runs panel slots.old (command_of line) number (filled_by (with_room held (length text.old) 128) text.old) done.changes slots.new (filled_by done.filled text.new)) }
+    ensures written { OnOk result (Appends (W.contents to.old) (W.contents to.new) (written_for_room held text.old 128)) }
+    ensures slots_kept { OnErr result (slots.new ≡ slots.old) }
+    ensures text_kept { OnErr result (text.new ≡ text.old) }
+{
+    let filled = bench_lines::room(to, held, text)?;
+    Ok(run_in_room(panel, slots, line, number, filled, text))
+}
+
+// The same where the buffer has room for what the line prints.
+fn run_in_room(
+    panel: Record,
+    slots: &mut [u64],
+    line: Line,
+    number: u64,
+    filled: usize,
+    text: &mut [u8],
 ) -> Done
-    ensures { Runs panel slots.old (command_of line) number (filled_by (with_room held (length text.old) 128) text.old) result.changes slots.new (filled_by result.filled text.new) }
+    ensures { Runs panel slots.old (command_of line) number (filled_by filled text.old) result.changes slots.new (filled_by result.filled text.new) }
 {
     let reach = panel.reach;
-    let filled = bench_lines::room(held, text);
     match line::command_of(line) {
         CommandLine::Put(put) => {
             let written = whole_put(panel, slots, put.point, put.value);

@@ -1,5 +1,7 @@
-// Standard input, a buffer at a time, and its lines.
+// The input, a buffer at a time, and its lines.
 use line::{Field, Fields, Line, part_of};
+use std::io;
+use std::io::Read;
 
 // The line that is read, as far as the buffer has it.
 #[derive(Clone, Copy)]
@@ -14,10 +16,9 @@ pub(crate) struct Reading {
     count: usize,
 }
 
-// One read of standard input; 0 at its end.
-fn read(bytes: &mut [u8]) -> usize {
-    let got = libc::read(libc::STDIN_FILENO, bytes);
-    io::count(got, bytes)
+// One read of the input; 0 at its end.
+fn read<R: Read>(from: &mut R, bytes: &mut [u8]) -> io::Result<usize> {
+    from.read(bytes)
 }
 
 // The line goes on with the bytes of the buffer from `from` on.
@@ -35,36 +36,39 @@ fn read_from(bytes: &[u8], line: Line, from: usize, count: usize, is_last: bool)
 
 // The line goes on with what is read next. At the end of the input "the last line needs no line end":
 // what follows the last line end is a line, if it is not empty.
-pub(crate) fn read_on(bytes: &mut [u8], reading: Reading) -> Reading {
+pub(crate) fn read_on<R: Read>(
+    from: &mut R,
+    bytes: &mut [u8],
+    reading: Reading,
+) -> io::Result<Reading> {
     let line = reading.line;
-    let count = read(bytes);
+    let count = read(from, bytes)?;
     if count > 0 {
-        return read_from(bytes, line, 0, count, false);
+        return Ok(read_from(bytes, line, 0, count, false));
     }
-    Reading {
+    Ok(Reading {
         line: line,
         is_whole: is_begun(line),
         is_last: true,
         next: 0,
         count: 0,
-    }
+    })
 }
 
-// Line 1. It is missing where the input is empty, and then it cannot be read.
-pub(crate) fn first_line(bytes: &mut [u8]) -> Reading {
+// Line 1. It is missing where the input is empty, and then it cannot be read. Nothing says that a line ends, so
+// the loop has a bound, which no run reaches.
+pub(crate) fn first_line<R: Read>(from: &mut R, bytes: &mut [u8]) -> io::Result<Reading> {
     let mut reading = read_from(bytes, line::begin(), 0, 0, false);
-    let mut iterations = u64::MAX;
-    while iterations > 0 {
-        reading = read_on(bytes, reading);
+    for _ in 0..u64::MAX {
+        reading = read_on(from, bytes, reading)?;
         if reading.is_whole {
-            return reading;
+            return Ok(reading);
         }
         if reading.is_last {
-            return reading;
+            return Ok(reading);
         }
-        iterations -= 1;
     }
-    reading
+    Ok(reading)
 }
 
 // The line behind one that is whole. Behind the last one there is none.

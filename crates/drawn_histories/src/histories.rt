@@ -14,6 +14,7 @@ use answers::CallOutcome;
 use calls::{Call, apply};
 use record::Record;
 use slot_words::taken::taken_slots;
+use std::io;
 
 // How far a history is: the record, the generator's last value, and the digest since the last line.
 #[derive(Clone, Copy)]
@@ -24,7 +25,14 @@ struct Progress {
 }
 
 // Five thousand calls; the generator's value behind them.
-pub(crate) fn calls(way: Way, panel: Record, slots: &mut [u64], points: u32, drawn: u32) -> u32 {
+pub(crate) fn calls(
+    rt: &impl Print,
+    way: Way,
+    panel: Record,
+    slots: &mut [u64],
+    points: u32,
+    drawn: u32,
+) -> io::Result<u32> {
     let mut now = Progress {
         panel: panel,
         drawn: drawn,
@@ -32,9 +40,9 @@ pub(crate) fn calls(way: Way, panel: Record, slots: &mut [u64], points: u32, dra
     };
     for part in 1..51u32 {
         now = hundred(way, now, slots, points);
-        report(now, slots, part * 100);
+        report(rt, now, slots, part * 100)?;
     }
-    now.drawn
+    Ok(now.drawn)
 }
 
 // A hundred calls, with a digest of their own.
@@ -87,14 +95,17 @@ fn carried_out(
     }
 }
 
-fn report(now: Progress, slots: &[u64], made: u32) {
+fn report(rt: &impl Print, now: Progress, slots: &[u64], made: u32) -> io::Result<()> {
     let panel = now.panel;
     let digest = now.digest;
-    printing::report(Hundred {
-        made: made,
-        first: digest.first,
-        second: digest.second,
-        reach: panel.reach,
-        taken: taken_slots(slots) as u64,
-    });
+    printing::report(
+        rt,
+        Hundred {
+            made: made,
+            first: digest.first,
+            second: digest.second,
+            reach: panel.reach,
+            taken: taken_slots(slots) as u64,
+        },
+    )
 }

@@ -1,5 +1,8 @@
 // Long histories of drawn calls, of all nine kinds: each call is carried out by `apply`, and in a second run
 // by the call in place of its kind. Digests of all that follows from the calls are printed.
+
+use std::io;
+
 mod answer_digest;
 mod commands;
 mod digest;
@@ -20,9 +23,13 @@ pub(crate) enum Way {
     InPlace,
 }
 
-fn main() {
-    printing::heading(b"by value");
-    panels::run(Way::ByValue);
-    printing::heading(b"in place");
-    panels::run(Way::InPlace);
+fn main(rt: HostRuntime) -> io::Result<()> {
+    run(&rt)
+}
+
+fn run(rt: &impl Print) -> io::Result<()> {
+    printing::heading(rt, b"by value")?;
+    panels::run(rt, Way::ByValue)?;
+    printing::heading(rt, b"in place")?;
+    panels::run(rt, Way::InPlace)
 }

@@ -1,24 +1,27 @@
 // The printed lines, each put together in a buffer of its own.
+use std::io;
 use text_buffer::output::flush;
 use text_buffer::{line_end, number, text};
 
 // A line has fewer bytes.
 const LINE: usize = 128;
 
-pub(crate) fn heading(words: &[u8]) {
+pub(crate) fn heading(rt: &impl Print, words: &[u8]) -> io::Result<()> {
     let mut out = [0u8; LINE];
     let filled = heading_in(&mut out, words);
-    flush(filled, &out);
+    flush(&mut io::writer(rt), filled, &out)?;
+    Ok(())
 }
 
 fn heading_in(out: &mut [u8], words: &[u8]) -> usize {
     line_end(text(0, out, words), out)
 }
 
-pub(crate) fn panel(m: u32, k: u32) {
+pub(crate) fn panel(rt: &impl Print, m: u32, k: u32) -> io::Result<()> {
     let mut out = [0u8; LINE];
     let filled = panel_in(&mut out, m, k);
-    flush(filled, &out);
+    flush(&mut io::writer(rt), filled, &out)?;
+    Ok(())
 }
 
 fn panel_in(out: &mut [u8], m: u32, k: u32) -> usize {
@@ -37,10 +40,11 @@ pub(crate) struct Hundred {
     pub taken: u64,
 }
 
-pub(crate) fn report(done: Hundred) {
+pub(crate) fn report(rt: &impl Print, done: Hundred) -> io::Result<()> {
     let mut out = [0u8; LINE];
     let filled = report_in(&mut out, done);
-    flush(filled, &out);
+    flush(&mut io::writer(rt), filled, &out)?;
+    Ok(())
 }
 
 fn report_in(out: &mut [u8], done: Hundred) -> usize {

@@ -10,6 +10,8 @@ mod runs;
 mod sums;
 
 use runs::Tally;
+use std::io;
+use std::io::Read;
 
 // How the calls are made.
 #[derive(Clone, Copy)]
@@ -18,24 +20,39 @@ pub(crate) enum Way {
     InPlace,
 }
 
-fn main() {
+fn main(rt: HostRuntime) -> io::Result<()> {
+    let mut input = rt.stdin();
     for number in 1..25u32 {
         let mut line = [0u8; 5];
-        let length = io::read_full(0, &mut line);
+        let length = read_full(&mut input, &mut line)?;
         if length < 4 {
-            return;
+            return Ok(());
         }
-        measure(line);
+        measure(&rt, line)?;
     }
+    Ok(())
 }
 
-fn measure(line: [u8; 5]) {
+// Reads until the buffer is full or the input has ended, and gives how many bytes were read.
+fn read_full<R: Read>(from: &mut R, bytes: &mut [u8]) -> io::Result<usize> {
+    let mut filled = 0;
+    while filled < bytes.len() {
+        let count = from.read(&mut bytes[filled..])?;
+        if count == 0 {
+            break;
+        }
+        filled += count;
+    }
+    Ok(filled)
+}
+
+fn measure(rt: &impl Print, line: [u8; 5]) -> io::Result<()> {
     let way = way_of(line[1]);
     let times = power_of_ten(line[3]);
     if line[2] == b'L' {
-        large(line[0], way, times);
+        large(rt, line[0], way, times)
     } else {
-        small(line[0], way, times);
+        small(rt, line[0], way, times)
     }
 }
 
@@ -60,21 +77,18 @@ fn power_of_ten(digit: u8) -> u32 {
     }
 }
 
-fn small(letter: u8, way: Way, times: u32) {
+fn small(rt: &impl Print, letter: u8, way: Way, times: u32) -> io::Result<()> {
     let mut slots = [0u64; 16];
     panels::fill(&mut slots, 16);
-    report(runs::made(letter, way, 16, &mut slots, times));
+    report(rt, runs::made(letter, way, 16, &mut slots, times))
 }
 
-fn large(letter: u8, way: Way, times: u32) {
+fn large(rt: &impl Print, letter: u8, way: Way, times: u32) -> io::Result<()> {
     let mut slots = [0u64; 4096];
     panels::fill(&mut slots, 4096);
-    report(runs::made(letter, way, 4096, &mut slots, times));
+    report(rt, runs::made(letter, way, 4096, &mut slots, times))
 }
 
-fn report(tally: Tally) {
-    io::print_decimal(1, tally.calls);
-    io::write_all(1, b" ");
-    io::print_decimal(1, tally.sum);
-    io::write_all(1, b"\n");
+fn report(rt: &impl Print, tally: Tally) -> io::Result<()> {
+    println!(rt; "{} {}", tally.calls, tally.sum)
 }

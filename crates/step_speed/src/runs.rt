@@ -3,7 +3,6 @@
 use crate::panels::{POINT, all_at_work, idle_panel, one_at_work, readers_at_work};
 use crate::{Way, by_value, lending};
 use record::Record;
-use std::num::wrapping_add_u64;
 
 // The calls made, and the sum of what they answered.
 #[derive(Clone, Copy)]
@@ -25,8 +24,8 @@ pub(crate) fn made(letter: u8, way: Way, m: u32, slots: &mut [u64], times: u32) 
 
 fn counted(tally: Tally, count: u32, sum: u64) -> Tally {
     Tally {
-        calls: wrapping_add_u64(tally.calls, count as u64),
-        sum: wrapping_add_u64(tally.sum, sum),
+        calls: tally.calls.wrapping_add(count as u64),
+        sum: tally.sum.wrapping_add(sum),
     }
 }
 
@@ -109,7 +108,7 @@ fn three_run(
     let put = writer_run(way, putting, slots, 18);
     let changed = writer_run(way, changing, slots, 10);
     let removed = writer_run(way, removing, slots, 11);
-    wrapping_add_u64(wrapping_add_u64(put, changed), removed)
+    put.wrapping_add(changed).wrapping_add(removed)
 }
 
 fn writer_run(way: Way, panel: Record, slots: &mut [u64], count: u32) -> u64 {

@@ -1,12 +1,11 @@
 // What an answer adds to the sum that is printed. A refusal adds a million, so that none goes unseen.
 use answers::{Ending, StartAnswer, StepAnswer, StepResult, TurnAnswer};
 use slot_words::word::value_of;
-use std::num::wrapping_add_u64;
 
 pub(crate) fn with_step(sum: u64, answer: StepAnswer) -> u64 {
     match answer {
-        StepAnswer::Stepped(result) => wrapping_add_u64(sum, worth(result)),
-        StepAnswer::Refused(_) => wrapping_add_u64(sum, 1000000),
+        StepAnswer::Stepped(result) => sum.wrapping_add(worth(result)),
+        StepAnswer::Refused(_) => sum.wrapping_add(1000000),
     }
 }
 
@@ -14,16 +13,16 @@ pub(crate) fn with_step(sum: u64, answer: StepAnswer) -> u64 {
 pub(crate) fn with_turn(sum: u64, answer: TurnAnswer) -> u64 {
     match answer {
         TurnAnswer::Served { party, result } => {
-            wrapping_add_u64(wrapping_add_u64(sum, party as u64), worth(result))
+            sum.wrapping_add(party as u64).wrapping_add(worth(result))
         }
-        TurnAnswer::Refused(_) => wrapping_add_u64(sum, 1000000),
+        TurnAnswer::Refused(_) => sum.wrapping_add(1000000),
     }
 }
 
 pub(crate) fn with_start(sum: u64, answer: StartAnswer) -> u64 {
     match answer {
-        StartAnswer::Started => wrapping_add_u64(sum, 1),
-        StartAnswer::Refused(_) => wrapping_add_u64(sum, 1000000),
+        StartAnswer::Started => sum.wrapping_add(1),
+        StartAnswer::Refused(_) => sum.wrapping_add(1000000),
     }
 }
 
@@ -32,7 +31,7 @@ fn worth(res: StepResult) -> u64 {
         StepResult::Underway => 1,
         StepResult::Ended(completion) => {
             let ending = completion.ending;
-            wrapping_add_u64(ending_worth(ending), completion.steps as u64)
+            ending_worth(ending).wrapping_add(completion.steps as u64)
         }
         StepResult::Walked(word) => value_of(word) as u64,
         StepResult::WalkedLast(word) => value_of(word) as u64,

@@ -23,6 +23,7 @@ pub(crate) struct Done {
 }
 
 // Of a line that leaves a record of this reach as it is.
+#[tactic(auto, unfolding(whole_operations::specs::Whole::leaves, record::specs::Parts::with_count, record::specs::Parts::with_counts, record::specs::Parts::with_numbered, record::specs::Parts::with_reach))]
 fn unchanged(reach: u32, filled: usize) -> Done
     ensures { ((panel : Record) → panel.reach ≡ reach → leaves panel result.changes ≡ panel) × (result.filled ≡ filled) }
 {
@@ -69,6 +70,7 @@ fn wrote(
 
 // Runs the line of this number, behind as much output as the buffer holds. Where the output takes none of that, the
 // line is not run.
+#[tactic(auto, unfolding(crate::specs::Lines::printed_line, crate::specs::Lines::runs_to))]
 pub(crate) fn run_line<W: Write>(
     to: &mut W,
     panel: Record,

@@ -1,4 +1,6 @@
 // The bench program of document 01: reads commands from standard input and runs each to its end.
+#![tactic(auto)]
+
 mod commands;
 mod input;
 

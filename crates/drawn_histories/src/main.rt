@@ -1,5 +1,6 @@
 // Long histories of drawn calls, of all nine kinds: each call is carried out by `apply`, and in a second run
 // by the call in place of its kind. Digests of all that follows from the calls are printed.
+#![tactic(auto)]
 
 use std::io;
 

@@ -1,5 +1,7 @@
 // The orders program, for the inspector: carries out any list of calls from standard input, each by
 // `calls::apply` with the plain list beside it, and prints what each answers.
+#![tactic(auto)]
+
 mod answer_texts;
 mod call_lines;
 mod faults;

@@ -3,6 +3,8 @@
 // O turns, one reader at work; S that reader's steps. V by value or P in place, which turns always are; S 16 or L
 // 4096 slots; and a digit, for 10 to that power runs. Prints for each line the calls made and a sum of what they
 // answered.
+#![tactic(auto)]
+
 mod by_value;
 mod lending;
 mod panels;

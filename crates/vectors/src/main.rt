@@ -1,6 +1,8 @@
 // The second, test program of document 01: outside vectors, run through the proved functions. It shows
 // what no history leads to and what no host test sees: records and slots made by hand, slices of another
 // length than m, the generator's published check.
+#![tactic(auto)]
+
 mod disabled;
 mod fresh;
 mod list;

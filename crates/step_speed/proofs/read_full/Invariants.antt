@@ -3,4 +3,4 @@ use Rattle.std.proofs.Common.{◌-◌, length}
 use Rattle.step_speed.proofs.read_full.Given as goal
 
 abbrev pub decreases-loop-filled : goal.decreases-loop-filled
-decreases-loop-filled l = length l.bytes - l.filled
+decreases-loop-filled g l = length l.bytes - l.filled

@@ -3,4 +3,4 @@ use Rattle.std.proofs.Common.{◌-◌, length}
 use Rattle.orders.proofs.showing.slot_lines.Given as goal
 
 abbrev pub decreases-loop-slot : goal.decreases-loop-slot
-decreases-loop-slot l = length l.slots - l.slot
+decreases-loop-slot g l = length l.slots - l.slot

@@ -1,6 +1,7 @@
 /*
  * Fuzz target of a program that reads standard input and prints: any bytes as its input. The
- * program must end normally with status 0 and print what its reference prints.
+ * program must end normally and print what its reference prints, with status 0, or 1 if a write
+ * failed.
  *
  * Variables: FUZZ_PROGRAM the program, FUZZ_PRELOAD the library of host/fuzz/fuzz_io.c,
  * FUZZ_REFERENCE the name of the reference, FUZZ_FAULT for the preloaded library.
@@ -106,8 +107,8 @@ static int status_of(struct fuzz_order order)
     return status;
 }
 
-/* Runs the program on the input and gives how many bytes it printed. */
-static size_t run(const uint8_t *data, size_t size, struct fuzz_order order)
+/* Runs the program on the input and gives how many bytes it printed, and its exit status. */
+static size_t run(const uint8_t *data, size_t size, struct fuzz_order order, int *exit_status)
 {
     struct stat output;
     need(ftruncate(input_file, 0) == 0 && ftruncate(output_file, 0) == 0, "emptying the files");
@@ -120,7 +121,7 @@ static size_t run(const uint8_t *data, size_t size, struct fuzz_order order)
         fprintf(stderr, "fuzz: signal %d\n", WTERMSIG(status));
     }
     require(WIFEXITED(status), "the program ends without a signal");
-    require(WEXITSTATUS(status) == 0, "the program ends with status 0");
+    *exit_status = WEXITSTATUS(status);
     need(fstat(output_file, &output) == 0, "the output's length");
     require(output.st_size <= PRINTED, "the output has a bound");
     need(pread(output_file, printed, PRINTED, 0) == output.st_size, "reading the output");
@@ -303,16 +304,19 @@ static struct fuzz_order order_of(const uint8_t *data, size_t size)
     return (struct fuzz_order){limits_of(hash >> 8, size), limits_of(hash * 16777619u >> 8, size)};
 }
 
-/* A read that fails ends the input; behind a write that fails nothing is printed. */
+/* A read that fails ends the input; a write that fails ends the program with status 1. */
 int LLVMFuzzerTestOneInput(const uint8_t *data, size_t size)
 {
     struct fuzz_order order = order_of(data, size);
-    size_t count = run(data, size, order);
+    int status;
+    size_t count = run(data, size, order, &status);
     note_shapes(count);
     size_t length = lesser(size, order.input.until);
     size_t all = reference(data, length, expected, PRINTED);
     size_t wanted = lesser(all, order.output.until);
     require(count == wanted && memcmp(printed, expected, count) == 0,
             "the program prints what the reference prints");
+    require(status == (wanted < all ? 1 : 0),
+            "the program ends with status 0, or with 1 if a write failed");
     return 0;
 }

@@ -1,6 +1,5 @@
 // The input, a buffer at a time, and its lines.
 use line::{Field, Fields, Line, part_of};
-use std::io;
 use std::io::Read;
 
 // The line that is read, as far as the buffer has it.
@@ -16,9 +15,12 @@ pub(crate) struct Reading {
     count: usize,
 }
 
-// One read of the input; 0 at its end.
-fn read<R: Read>(from: &mut R, bytes: &mut [u8]) -> io::Result<usize> {
-    from.read(bytes)
+// One read of the input; 0 at its end, and where it fails.
+fn read<R: Read>(from: &mut R, bytes: &mut [u8]) -> usize {
+    match from.read(bytes) {
+        Ok(count) => count,
+        Err(_) => 0,
+    }
 }
 
 // The line goes on with the bytes of the buffer from `from` on.
@@ -36,39 +38,35 @@ fn read_from(bytes: &[u8], line: Line, from: usize, count: usize, is_last: bool)
 
 // The line goes on with what is read next. At the end of the input "the last line needs no line end":
 // what follows the last line end is a line, if it is not empty.
-pub(crate) fn read_on<R: Read>(
-    from: &mut R,
-    bytes: &mut [u8],
-    reading: Reading,
-) -> io::Result<Reading> {
+pub(crate) fn read_on<R: Read>(from: &mut R, bytes: &mut [u8], reading: Reading) -> Reading {
     let line = reading.line;
-    let count = read(from, bytes)?;
+    let count = read(from, bytes);
     if count > 0 {
-        return Ok(read_from(bytes, line, 0, count, false));
+        return read_from(bytes, line, 0, count, false);
     }
-    Ok(Reading {
+    Reading {
         line: line,
         is_whole: is_begun(line),
         is_last: true,
         next: 0,
         count: 0,
-    })
+    }
 }
 
 // Line 1. It is missing where the input is empty, and then it cannot be read. Nothing says that a line ends, so
 // the loop has a bound, which no run reaches.
-pub(crate) fn first_line<R: Read>(from: &mut R, bytes: &mut [u8]) -> io::Result<Reading> {
+pub(crate) fn first_line<R: Read>(from: &mut R, bytes: &mut [u8]) -> Reading {
     let mut reading = read_from(bytes, line::begin(), 0, 0, false);
     for _ in 0..u64::MAX {
-        reading = read_on(from, bytes, reading)?;
+        reading = read_on(from, bytes, reading);
         if reading.is_whole {
-            return Ok(reading);
+            return reading;
         }
         if reading.is_last {
-            return Ok(reading);
+            return reading;
         }
     }
-    Ok(reading)
+    reading
 }
 
 // The line behind one that is whole. Behind the last one there is none.

@@ -46,7 +46,7 @@ fn bench<R: Read, W: Write>(
     bytes: &mut [u8],
     text: &mut [u8],
 ) -> io::Result<()> {
-    let first = first_line(from, bytes)?;
+    let first = first_line(from, bytes);
     let line = first.line;
     match line::sizes_of(line) {
         SizesLine::Unreadable => refuse(to, text),
@@ -145,7 +145,7 @@ fn run_lines<R: Read, W: Write>(
         if reading.is_last {
             return Ok(run);
         }
-        run.reading = read_on(from, bytes, reading)?;
+        run.reading = read_on(from, bytes, reading);
     }
     Ok(run)
 }

@@ -1,7 +1,6 @@
 // The input, a buffer at a time, and its lines.
 ghost use Rattle.std.specs.Prelude.{◌≤◌, length as size};
 
-use std::io;
 use std::io::Read;
 
 // The longest line, without its LF.
@@ -18,9 +17,12 @@ pub(crate) struct Part {
     pub next: usize,
 }
 
-// One read of the input; 0 at its end.
-pub(crate) fn read<R: Read>(from: &mut R, bytes: &mut [u8]) -> io::Result<usize> {
-    from.read(bytes)
+// One read of the input; 0 at its end, and where it fails.
+pub(crate) fn read<R: Read>(from: &mut R, bytes: &mut [u8]) -> usize {
+    match from.read(bytes) {
+        Ok(count) => count,
+        Err(_) => 0,
+    }
 }
 
 // The line goes on with the bytes of the buffer from `from` on, up to its LF.

@@ -119,7 +119,7 @@ fn run_input<R: Read, W: Write>(
 ) -> io::Result<Progress> {
     let mut now = begun;
     for _ in 0..u64::MAX {
-        let count = read(from, bytes)?;
+        let count = read(from, bytes);
         if count == 0 {
             return Ok(now);
         }

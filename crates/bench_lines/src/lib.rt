@@ -1,7 +1,7 @@
 // The lines that the bench program prints. Each function gives how much of the buffer is in use.
 #![tactic(auto)]
 
-ghost use Rattle.std.specs.Prelude.{◌≡◌, length, IfOk, OnOk};
+ghost use Rattle.std.specs.Prelude.{◌≡◌, ◌+◌, ◌≤◌, length, IfOk, OnOk, OnErr};
 ghost use Rattle.std.specs.Io.KnownBytes.{Appends};
 ghost use Rattle.refusal.specs.Refusals.{number_of};
 ghost use Rattle.answers.specs.Answers.{paper_ending, paper_completion, paper_whole};
@@ -21,6 +21,7 @@ const LINE: usize = 128;
 pub fn room<W: Write>(to: &mut W, filled: usize, out: &[u8]) -> io::Result<usize>
     ensures used { IfOk result (λ used. used ≡ with_room filled (length out.now) 128) }
     ensures written { OnOk result (Appends (W.contents to.old) (W.contents to.new) (written_for_room filled out.now 128)) }
+    ensures failed { OnErr result (length out.now ≤ filled + 128) }
 {
     text_buffer::output::room(to, filled, out, LINE)
 }

@@ -1,43 +1,27 @@
--- A refused call leaves record and slots; and the paper's answers tell the cases of the enums apart, so that the contracts decide the enums too.
+-- A refused call leaves record and slots; and the paper's answers tell the cases of the code's answers apart, so that the contracts decide these too.
 use Prim.Native.Nat.{ℕ, zero, suc, ◌≤◌}
-use mathlib.Core.Path.{◌≡◌, refl, ap}
-use mathlib.Core.List.{List, []}
+use mathlib.Core.Path.{◌≡◌, refl, ap, ◌∙◌}
+use mathlib.Core.List.{[], ◌∷◌}
 use mathlib.Mathlib.Logic.Function.Defs.{LeftInverse-Injective}
-use mathlib.Core.Bool.{cond, false}
+use mathlib.Core.Bool.{Bool, cond, false}
 use native.Mathlib.Omega.{arith}
 use lib.Dec.{eqb}
 use lib.ListN.{get_or}
+use Rattle.std.specs.Prelude.{Option, Some, None, Result, Ok, Err, ⊤}
 use Rattle.refusal.specs.declared.Refusal.{Refusal}
 use Rattle.refusal.specs.Refusals.{number_of}
 use Rattle.refusal.proofs.Laws.{row_of, row_of_number, number_positive}
-use Rattle.record.specs.declared.CommandAnswer.{CommandAnswer}
-use Rattle.record.specs.declared.CommandAnswer.TheVariants.{Value, Unknown as CommandAnswer-as-Unknown}
 use Rattle.answers.specs.declared.Ending.{Ending as EndingEnum}
 use Rattle.answers.specs.declared.Ending.TheVariants.{LookedUp, Placed, Changed, Removed, NoPerch, Unknown}
 use Rattle.answers.specs.declared.Completion.{Completion as CompletionStruct}
-use Rattle.answers.specs.declared.Progress.{Progress as ProgressEnum}
-use Rattle.answers.specs.declared.Progress.TheVariants.{Underway as Progress-as-Underway, Ended as Progress-as-Ended}
 use Rattle.answers.specs.declared.StepResult.{StepResult}
-use Rattle.answers.specs.declared.StepResult.TheVariants.{Underway as StepResult-as-Underway, Ended as StepResult-as-Ended, Walked, WalkedLast}
-use Rattle.answers.specs.declared.StepAnswer.{StepAnswer}
-use Rattle.answers.specs.declared.StepAnswer.TheVariants.{Stepped as StepAnswer-as-Stepped, Refused as StepAnswer-as-Refused}
-use Rattle.answers.specs.declared.StartAnswer.{StartAnswer}
-use Rattle.answers.specs.declared.StartAnswer.TheVariants.{Started as StartAnswer-as-Started, Refused as StartAnswer-as-Refused}
-use Rattle.answers.specs.declared.EntryAnswer.{EntryAnswer}
-use Rattle.answers.specs.declared.EntryAnswer.TheVariants.{Started as EntryAnswer-as-Started, GivenAgain as EntryAnswer-as-GivenAgain, Refused as EntryAnswer-as-Refused}
-use Rattle.answers.specs.declared.TurnAnswer.{TurnAnswer}
-use Rattle.answers.specs.declared.TurnAnswer.TheVariants.{Served as TurnAnswer-as-Served, Refused as TurnAnswer-as-Refused}
-use Rattle.answers.specs.declared.CallAnswer.{CallAnswer}
-use Rattle.answers.specs.declared.CallAnswer.TheVariants.{Started as CallAnswer-as-Started, GivenAgain as CallAnswer-as-GivenAgain, Stepped as CallAnswer-as-Stepped, Served as CallAnswer-as-Served, Refused as CallAnswer-as-Refused}
-use Rattle.answers.specs.declared.WholeAnswer.{WholeAnswer}
-use Rattle.answers.specs.declared.WholeAnswer.TheVariants.{Ended as WholeAnswer-as-Ended, Refused as WholeAnswer-as-Refused}
-use Rattle.answers.specs.declared.FreshAnswer.{FreshAnswer}
-use Rattle.answers.specs.declared.FreshAnswer.TheVariants.{Made, Refused as FreshAnswer-as-Refused}
-use Rattle.answers.specs.declared.TotalAnswer.{TotalAnswer}
-use Rattle.answers.specs.declared.TotalAnswer.TheVariants.{Total, Refused as TotalAnswer-as-Refused}
-use Rattle.answers.specs.declared.DisplayAnswer.{DisplayAnswer}
-use Rattle.answers.specs.declared.DisplayAnswer.TheVariants.{Shown, Refused as DisplayAnswer-as-Refused}
-use Rattle.answers.specs.Answers.{Ending, looked_up, placed, changed, removed, ended_with, Completion, Answer, started, underway, ended, walked, walked_last, served, given_again, gives, refused, Progress, continues, finishes, is_started, is_refused, unless_refused, stored_answer, paper_ending, paper_completion, paper_progress, paper_result, paper_step, paper_start, paper_entry, paper_turn, paper_call, paper_whole, paper_fresh, paper_total, paper_display}
+use Rattle.answers.specs.declared.StepResult.TheVariants.{Underway, Ended, Walked, WalkedLast}
+use Rattle.answers.specs.declared.Entered.{Entered}
+use Rattle.answers.specs.declared.Entered.TheVariants.{Started as Entered-as-Started, GivenAgain as Entered-as-GivenAgain}
+use Rattle.answers.specs.declared.Served.{Served}
+use Rattle.answers.specs.declared.Given.{Given}
+use Rattle.answers.specs.declared.Given.TheVariants.{Started as Given-as-Started, GivenAgain as Given-as-GivenAgain, Stepped as Given-as-Stepped, Served as Given-as-Served}
+use Rattle.answers.specs.Answers.{Ending, looked_up, placed, changed, removed, ended_with, Completion, Answer, started, underway, ended, walked, walked_last, served, given_again, gives, refused, Progress, continues, finishes, is_started, is_refused, unless_refused, stored_answer, paper_ending, paper_completion, paper_progress, paper_answer, paper_result, paper_entered, paper_served, paper_given, paper_step, paper_start, paper_entry, paper_turn, paper_call, paper_whole, paper_fresh, paper_total, paper_display}
 
 module _ {A : Type 0} (left : Answer → A) (done : A) where
   by_number : (n : ℕ) → 1 ≤ n → unless_refused n left done ≡ left (refused n)
@@ -60,14 +44,14 @@ unless P (suc n) left done a b = a _
 
 -- a step that is carried out is no refusal and no start
 pub result_not_refused : (result : StepResult) → is_refused (paper_result result) ≡ false
-result_not_refused StepResult-as-Underway = refl
-result_not_refused (StepResult-as-Ended completion) = refl
+result_not_refused Underway = refl
+result_not_refused (Ended completion) = refl
 result_not_refused (Walked word) = refl
 result_not_refused (WalkedLast word) = refl
 
 pub result_not_started : (result : StepResult) → is_started (paper_result result) ≡ false
-result_not_started StepResult-as-Underway = refl
-result_not_started (StepResult-as-Ended completion) = refl
+result_not_started Underway = refl
+result_not_started (Ended completion) = refl
 result_not_started (Walked word) = refl
 result_not_started (WalkedLast word) = refl
 
@@ -82,81 +66,60 @@ as_ending (ended_with n) = cond (eqb n 6) NoPerch Unknown
 as_completion : Completion → CompletionStruct
 as_completion completion = record { ending = as_ending completion.ending; steps = completion.steps }
 
-as_progress : Progress → ProgressEnum
-as_progress continues = Progress-as-Underway
-as_progress (finishes ending) = Progress-as-Ended (as_ending ending)
+as_progress : Progress → Option EndingEnum
+as_progress continues = None
+as_progress (finishes ending) = Some (as_ending ending)
 
-as_stored : Ending → CommandAnswer
-as_stored (looked_up value) = CommandAnswer-as-Unknown
-as_stored (placed slot index) = CommandAnswer-as-Unknown
-as_stored (changed value) = Value value
-as_stored (removed reach) = CommandAnswer-as-Unknown
-as_stored (ended_with n) = CommandAnswer-as-Unknown
+as_stored : Ending → Option ℕ
+as_stored (looked_up value) = None
+as_stored (placed slot index) = None
+as_stored (changed value) = Some value
+as_stored (removed reach) = None
+as_stored (ended_with n) = None
 
--- a turn's answer from what the step gave
-served_as : ℕ → CallAnswer → CallAnswer
-served_as party CallAnswer-as-Started = CallAnswer-as-Started
-served_as party (CallAnswer-as-GivenAgain answer steps) = CallAnswer-as-Started
-served_as party (CallAnswer-as-Stepped result) = CallAnswer-as-Served party result
-served_as party (CallAnswer-as-Served other result) = CallAnswer-as-Started
-served_as party (CallAnswer-as-Refused r) = CallAnswer-as-Started
+as_result : Answer → StepResult
+as_result started = Underway
+as_result underway = Underway
+as_result (ended completion) = Ended (as_completion completion)
+as_result (walked word) = Walked word
+as_result (walked_last word) = WalkedLast word
+as_result (served party answer) = Underway
+as_result (given_again completion) = Underway
+as_result (gives values) = Underway
+as_result (refused n) = Underway
 
--- any call's answer, by which those of steps, starts, turns and the command entry are told too
-as_call : Answer → CallAnswer
-as_call started = CallAnswer-as-Started
-as_call underway = CallAnswer-as-Stepped StepResult-as-Underway
-as_call (ended completion) = CallAnswer-as-Stepped (StepResult-as-Ended (as_completion completion))
-as_call (walked word) = CallAnswer-as-Stepped (Walked word)
-as_call (walked_last word) = CallAnswer-as-Stepped (WalkedLast word)
-as_call (served party answer) = served_as party (as_call answer)
-as_call (given_again completion) = CallAnswer-as-GivenAgain (as_stored completion.ending) completion.steps
-as_call (gives values) = CallAnswer-as-Started
-as_call (refused n) = CallAnswer-as-Refused (row_of n)
+as_given : Answer → Given
+as_given started = Given-as-Started
+as_given underway = Given-as-Stepped Underway
+as_given (ended completion) = Given-as-Stepped (Ended (as_completion completion))
+as_given (walked word) = Given-as-Stepped (Walked word)
+as_given (walked_last word) = Given-as-Stepped (WalkedLast word)
+as_given (served party answer) = Given-as-Served (record { party = party; result = as_result answer })
+as_given (given_again completion) = Given-as-GivenAgain (as_stored completion.ending) completion.steps
+as_given (gives values) = Given-as-Started
+as_given (refused n) = Given-as-Started
 
--- the same answer of each kind of call
-of_step : CallAnswer → StepAnswer
-of_step CallAnswer-as-Started = StepAnswer-as-Stepped StepResult-as-Underway
-of_step (CallAnswer-as-GivenAgain answer steps) = StepAnswer-as-Stepped StepResult-as-Underway
-of_step (CallAnswer-as-Stepped result) = StepAnswer-as-Stepped result
-of_step (CallAnswer-as-Served party result) = StepAnswer-as-Stepped StepResult-as-Underway
-of_step (CallAnswer-as-Refused r) = StepAnswer-as-Refused r
+-- what the calls of one kind give, from what all calls give
+of_served : Given → Served
+of_served Given-as-Started = record { party = 0; result = Underway }
+of_served (Given-as-GivenAgain answer steps) = record { party = 0; result = Underway }
+of_served (Given-as-Stepped result) = record { party = 0; result = Underway }
+of_served (Given-as-Served turn) = turn
 
-of_turn : CallAnswer → TurnAnswer
-of_turn CallAnswer-as-Started = TurnAnswer-as-Served 0 StepResult-as-Underway
-of_turn (CallAnswer-as-GivenAgain answer steps) = TurnAnswer-as-Served 0 StepResult-as-Underway
-of_turn (CallAnswer-as-Stepped result) = TurnAnswer-as-Served 0 StepResult-as-Underway
-of_turn (CallAnswer-as-Served party result) = TurnAnswer-as-Served party result
-of_turn (CallAnswer-as-Refused r) = TurnAnswer-as-Refused r
-
-of_entry : CallAnswer → EntryAnswer
-of_entry CallAnswer-as-Started = EntryAnswer-as-Started
-of_entry (CallAnswer-as-GivenAgain answer steps) = EntryAnswer-as-GivenAgain answer steps
-of_entry (CallAnswer-as-Stepped result) = EntryAnswer-as-Started
-of_entry (CallAnswer-as-Served party result) = EntryAnswer-as-Started
-of_entry (CallAnswer-as-Refused r) = EntryAnswer-as-Refused r
-
-of_start : CallAnswer → StartAnswer
-of_start CallAnswer-as-Started = StartAnswer-as-Started
-of_start (CallAnswer-as-GivenAgain answer steps) = StartAnswer-as-Started
-of_start (CallAnswer-as-Stepped result) = StartAnswer-as-Started
-of_start (CallAnswer-as-Served party result) = StartAnswer-as-Started
-of_start (CallAnswer-as-Refused r) = StartAnswer-as-Refused r
+of_entered : Given → Entered
+of_entered Given-as-Started = Entered-as-Started
+of_entered (Given-as-GivenAgain answer steps) = Entered-as-GivenAgain answer steps
+of_entered (Given-as-Stepped result) = Entered-as-Started
+of_entered (Given-as-Served turn) = Entered-as-Started
 
 no_completion : CompletionStruct
 no_completion = record { ending = Unknown; steps = 0 }
 
-completion_of : StepResult → CompletionStruct
-completion_of StepResult-as-Underway = no_completion
-completion_of (StepResult-as-Ended completion) = completion
-completion_of (Walked word) = no_completion
-completion_of (WalkedLast word) = no_completion
-
-of_whole : CallAnswer → WholeAnswer
-of_whole CallAnswer-as-Started = WholeAnswer-as-Ended no_completion
-of_whole (CallAnswer-as-GivenAgain answer steps) = WholeAnswer-as-Ended no_completion
-of_whole (CallAnswer-as-Stepped result) = WholeAnswer-as-Ended (completion_of result)
-of_whole (CallAnswer-as-Served party result) = WholeAnswer-as-Ended no_completion
-of_whole (CallAnswer-as-Refused r) = WholeAnswer-as-Refused r
+of_result : StepResult → CompletionStruct
+of_result Underway = no_completion
+of_result (Ended completion) = completion
+of_result (Walked word) = no_completion
+of_result (WalkedLast word) = no_completion
 
 -- the number of a refusal, and the first of the values, of the calls without steps
 refusal : Answer → Refusal
@@ -170,25 +133,16 @@ refusal (given_again completion) = row_of 0
 refusal (gives values) = row_of 0
 refusal (refused n) = row_of n
 
-values : Answer → List ℕ
-values started = []
-values underway = []
-values (ended completion) = []
-values (walked word) = []
-values (walked_last word) = []
-values (served party answer) = []
-values (given_again completion) = []
-values (gives some) = some
-values (refused n) = []
-
-as_fresh : Answer → FreshAnswer
-as_fresh answer = cond (is_refused answer) (FreshAnswer-as-Refused (refusal answer)) Made
-
-as_total : Answer → TotalAnswer
-as_total answer = cond (is_refused answer) (TotalAnswer-as-Refused (refusal answer)) (Total (get_or (values answer) 0 0))
-
-as_display : Answer → DisplayAnswer
-as_display answer = cond (is_refused answer) (DisplayAnswer-as-Refused (refusal answer)) (Shown (get_or (values answer) 0 0))
+value : Answer → ℕ
+value started = 0
+value underway = 0
+value (ended completion) = 0
+value (walked word) = 0
+value (walked_last word) = 0
+value (served party answer) = 0
+value (given_again completion) = 0
+value (gives some) = get_or some 0 0
+value (refused n) = 0
 
 ending_back : (a : EndingEnum) → as_ending (paper_ending a) ≡ a
 unfolding as_ending
@@ -203,17 +157,54 @@ completion_back : (a : CompletionStruct) → as_completion (paper_completion a) 
 unfolding as_completion
 completion_back a = ap (λ (ending : EndingEnum). record { ending = ending; steps = a.steps }) (ending_back a.ending)
 
-stored_back : (a : CommandAnswer) → as_stored (stored_answer a) ≡ a
+stored_back : (a : Option ℕ) → as_stored (stored_answer a) ≡ a
 unfolding as_stored stored_answer
-stored_back (Value value) = refl
-stored_back CommandAnswer-as-Unknown = refl
+stored_back (Some value) = refl
+stored_back None = refl
 
-result_back : (a : StepResult) → as_call (paper_result a) ≡ CallAnswer-as-Stepped a
-unfolding as_call
-result_back StepResult-as-Underway = refl
-result_back (StepResult-as-Ended completion) = ap (λ (c : CompletionStruct). CallAnswer-as-Stepped (StepResult-as-Ended c)) (completion_back completion)
+result_back : (a : StepResult) → as_result (paper_result a) ≡ a
+unfolding as_result
+result_back Underway = refl
+result_back (Ended completion) = ap Ended (completion_back completion)
 result_back (Walked word) = refl
 result_back (WalkedLast word) = refl
+
+served_back : (a : Served) → as_given (paper_served a) ≡ Given-as-Served a
+unfolding as_given
+served_back a = ap (λ (result : StepResult). Given-as-Served (record { party = a.party; result = result })) (result_back a.result)
+
+stepped_back : (a : StepResult) → as_given (paper_result a) ≡ Given-as-Stepped a
+unfolding as_given
+stepped_back Underway = refl
+stepped_back (Ended completion) = ap (λ (c : CompletionStruct). Given-as-Stepped (Ended c)) (completion_back completion)
+stepped_back (Walked word) = refl
+stepped_back (WalkedLast word) = refl
+
+given_back : (a : Given) → as_given (paper_given a) ≡ a
+unfolding as_given
+given_back Given-as-Started = refl
+given_back (Given-as-GivenAgain answer steps) = ap (λ (stored : Option ℕ). Given-as-GivenAgain stored steps) (stored_back answer)
+given_back (Given-as-Stepped result) = stepped_back result
+given_back (Given-as-Served turn) = served_back turn
+
+given_not_refused : (a : Given) → is_refused (paper_given a) ≡ false
+given_not_refused Given-as-Started = refl
+given_not_refused (Given-as-GivenAgain answer steps) = refl
+given_not_refused (Given-as-Stepped result) = result_not_refused result
+given_not_refused (Given-as-Served turn) = result_not_refused turn.result
+
+-- a call's answer tells what it gave, or its refusal, where what it gives can be told from the paper's answer
+module _ {A : Type 0} (paper : A → Answer) (case_of : Answer → A) (back : (a : A) → case_of (paper a) ≡ a) (not_refused : (a : A) → is_refused (paper a) ≡ false) where
+  as_answer : Answer → Result A Refusal
+  as_answer answer = cond (is_refused answer) (Err (refusal answer)) (Ok (case_of answer))
+
+  answer_back : (a : Result A Refusal) → as_answer (paper_answer paper a) ≡ a
+  unfolding as_answer refusal
+  answer_back (Ok given) = ap (λ (r : Bool). cond r (Err (refusal (paper given))) (Ok (case_of (paper given)))) (not_refused given) ∙ ap Ok (back given)
+  answer_back (Err r) = ap Err (row_of_number r)
+
+  pub answer_tells : (a b : Result A Refusal) → paper_answer paper a ≡ paper_answer paper b → a ≡ b
+  answer_tells = LeftInverse-Injective as_answer (paper_answer paper) answer_back
 
 pub ending_tells : (a b : EndingEnum) → paper_ending a ≡ paper_ending b → a ≡ b
 ending_tells = LeftInverse-Injective as_ending paper_ending ending_back
@@ -221,86 +212,49 @@ ending_tells = LeftInverse-Injective as_ending paper_ending ending_back
 pub completion_tells : (a b : CompletionStruct) → paper_completion a ≡ paper_completion b → a ≡ b
 completion_tells = LeftInverse-Injective as_completion paper_completion completion_back
 
-pub progress_tells : (a b : ProgressEnum) → paper_progress a ≡ paper_progress b → a ≡ b
+pub progress_tells : (a b : Option EndingEnum) → paper_progress a ≡ paper_progress b → a ≡ b
 unfolding as_progress
 progress_tells = LeftInverse-Injective as_progress paper_progress back
   where
-    back : (a : ProgressEnum) → as_progress (paper_progress a) ≡ a
-    back Progress-as-Underway = refl
-    back (Progress-as-Ended ending) = ap Progress-as-Ended (ending_back ending)
+    back : (a : Option EndingEnum) → as_progress (paper_progress a) ≡ a
+    back None = refl
+    back (Some ending) = ap Some (ending_back ending)
 
-pub call_tells : (a b : CallAnswer) → paper_call a ≡ paper_call b → a ≡ b
-unfolding as_call served_as
-call_tells = LeftInverse-Injective as_call paper_call back
-  where
-    back : (a : CallAnswer) → as_call (paper_call a) ≡ a
-    back CallAnswer-as-Started = refl
-    back (CallAnswer-as-GivenAgain answer steps) = ap (λ (stored : CommandAnswer). CallAnswer-as-GivenAgain stored steps) (stored_back answer)
-    back (CallAnswer-as-Stepped result) = result_back result
-    back (CallAnswer-as-Served party result) = ap (served_as party) (result_back result)
-    back (CallAnswer-as-Refused r) = ap CallAnswer-as-Refused (row_of_number r)
+pub call_tells : (a b : Result Given Refusal) → paper_call a ≡ paper_call b → a ≡ b
+call_tells = answer_tells paper_given as_given given_back given_not_refused
 
-pub step_tells : (a b : StepAnswer) → paper_step a ≡ paper_step b → a ≡ b
-unfolding as_call of_step
-step_tells = LeftInverse-Injective (λ (answer : Answer). of_step (as_call answer)) paper_step back
-  where
-    back : (a : StepAnswer) → of_step (as_call (paper_step a)) ≡ a
-    back (StepAnswer-as-Stepped result) = ap of_step (result_back result)
-    back (StepAnswer-as-Refused r) = ap StepAnswer-as-Refused (row_of_number r)
+pub step_tells : (a b : Result StepResult Refusal) → paper_step a ≡ paper_step b → a ≡ b
+step_tells = answer_tells paper_result as_result result_back result_not_refused
 
-pub turn_tells : (a b : TurnAnswer) → paper_turn a ≡ paper_turn b → a ≡ b
-unfolding as_call served_as of_turn
-turn_tells = LeftInverse-Injective (λ (answer : Answer). of_turn (as_call answer)) paper_turn back
-  where
-    back : (a : TurnAnswer) → of_turn (as_call (paper_turn a)) ≡ a
-    back (TurnAnswer-as-Served party result) = ap (λ (answer : CallAnswer). of_turn (served_as party answer)) (result_back result)
-    back (TurnAnswer-as-Refused r) = ap TurnAnswer-as-Refused (row_of_number r)
+pub turn_tells : (a b : Result Served Refusal) → paper_turn a ≡ paper_turn b → a ≡ b
+unfolding of_served
+turn_tells = answer_tells paper_served (λ (answer : Answer). of_served (as_given answer)) (λ (a : Served). ap of_served (served_back a)) (λ (a : Served). result_not_refused a.result)
 
-pub entry_tells : (a b : EntryAnswer) → paper_entry a ≡ paper_entry b → a ≡ b
-unfolding as_call of_entry
-entry_tells = LeftInverse-Injective (λ (answer : Answer). of_entry (as_call answer)) paper_entry back
+pub entry_tells : (a b : Result Entered Refusal) → paper_entry a ≡ paper_entry b → a ≡ b
+unfolding as_given of_entered
+entry_tells = answer_tells paper_entered (λ (answer : Answer). of_entered (as_given answer)) back not_refused
   where
-    back : (a : EntryAnswer) → of_entry (as_call (paper_entry a)) ≡ a
-    back EntryAnswer-as-Started = refl
-    back (EntryAnswer-as-GivenAgain answer steps) = ap (λ (stored : CommandAnswer). EntryAnswer-as-GivenAgain stored steps) (stored_back answer)
-    back (EntryAnswer-as-Refused r) = ap EntryAnswer-as-Refused (row_of_number r)
+    back : (a : Entered) → of_entered (as_given (paper_entered a)) ≡ a
+    back Entered-as-Started = refl
+    back (Entered-as-GivenAgain answer steps) = ap (λ (stored : Option ℕ). Entered-as-GivenAgain stored steps) (stored_back answer)
 
-pub start_tells : (a b : StartAnswer) → paper_start a ≡ paper_start b → a ≡ b
-unfolding as_call of_start
-start_tells = LeftInverse-Injective (λ (answer : Answer). of_start (as_call answer)) paper_start back
-  where
-    back : (a : StartAnswer) → of_start (as_call (paper_start a)) ≡ a
-    back StartAnswer-as-Started = refl
-    back (StartAnswer-as-Refused r) = ap StartAnswer-as-Refused (row_of_number r)
+    not_refused : (a : Entered) → is_refused (paper_entered a) ≡ false
+    not_refused Entered-as-Started = refl
+    not_refused (Entered-as-GivenAgain answer steps) = refl
 
-pub whole_tells : (a b : WholeAnswer) → paper_whole a ≡ paper_whole b → a ≡ b
-unfolding as_call of_whole completion_of
-whole_tells = LeftInverse-Injective (λ (answer : Answer). of_whole (as_call answer)) paper_whole back
-  where
-    back : (a : WholeAnswer) → of_whole (as_call (paper_whole a)) ≡ a
-    back (WholeAnswer-as-Ended completion) = ap WholeAnswer-as-Ended (completion_back completion)
-    back (WholeAnswer-as-Refused r) = ap WholeAnswer-as-Refused (row_of_number r)
+pub start_tells : (a b : Result ⊤ Refusal) → paper_start a ≡ paper_start b → a ≡ b
+start_tells = answer_tells (λ (_ : ⊤). started) (λ (_ : Answer). _) (λ (_ : ⊤). refl) (λ (_ : ⊤). refl)
 
-pub fresh_tells : (a b : FreshAnswer) → paper_fresh a ≡ paper_fresh b → a ≡ b
-unfolding as_fresh refusal
-fresh_tells = LeftInverse-Injective as_fresh paper_fresh back
-  where
-    back : (a : FreshAnswer) → as_fresh (paper_fresh a) ≡ a
-    back Made = refl
-    back (FreshAnswer-as-Refused r) = ap FreshAnswer-as-Refused (row_of_number r)
+pub whole_tells : (a b : Result CompletionStruct Refusal) → paper_whole a ≡ paper_whole b → a ≡ b
+unfolding as_result of_result
+whole_tells = answer_tells (λ (completion : CompletionStruct). ended (paper_completion completion)) (λ (answer : Answer). of_result (as_result answer)) completion_back (λ (_ : CompletionStruct). refl)
 
-pub total_tells : (a b : TotalAnswer) → paper_total a ≡ paper_total b → a ≡ b
-unfolding as_total refusal values
-total_tells = LeftInverse-Injective as_total paper_total back
-  where
-    back : (a : TotalAnswer) → as_total (paper_total a) ≡ a
-    back (Total count) = refl
-    back (TotalAnswer-as-Refused r) = ap TotalAnswer-as-Refused (row_of_number r)
+pub fresh_tells : (a b : Result ⊤ Refusal) → paper_fresh a ≡ paper_fresh b → a ≡ b
+fresh_tells = answer_tells (λ (_ : ⊤). gives []) (λ (_ : Answer). _) (λ (_ : ⊤). refl) (λ (_ : ⊤). refl)
 
-pub display_tells : (a b : DisplayAnswer) → paper_display a ≡ paper_display b → a ≡ b
-unfolding as_display refusal values
-display_tells = LeftInverse-Injective as_display paper_display back
-  where
-    back : (a : DisplayAnswer) → as_display (paper_display a) ≡ a
-    back (Shown point) = refl
-    back (DisplayAnswer-as-Refused r) = ap DisplayAnswer-as-Refused (row_of_number r)
+pub total_tells : (a b : Result ℕ Refusal) → paper_total a ≡ paper_total b → a ≡ b
+unfolding value
+total_tells = answer_tells (λ (count : ℕ). gives (count ∷ [])) value (λ (_ : ℕ). refl) (λ (_ : ℕ). refl)
+
+pub display_tells : (a b : Result ℕ Refusal) → paper_display a ≡ paper_display b → a ≡ b
+display_tells = total_tells

@@ -1,34 +1,18 @@
--- What calls hand back, in document 01's words, and for each case of the answer enums which of these it is.
-use Rattle.std.specs.Prelude.{ℕ, zero, suc, Bool, true, false, List, [], ◌∷◌}
+-- What calls hand back, in document 01's words, and which of these each call's result is.
+use Rattle.std.specs.Prelude.{ℕ, zero, suc, Bool, true, false, Option, Some, None, Result, Ok, Err, ⊤, List, [], ◌∷◌}
+use Rattle.refusal.specs.declared.Refusal.{Refusal}
 use Rattle.refusal.specs.Refusals.{number_of}
 use Rattle.record.specs.declared.Record.{Record}
-use Rattle.record.specs.declared.CommandAnswer.{CommandAnswer}
-use Rattle.record.specs.declared.CommandAnswer.TheVariants.{Value, Unknown as CommandAnswer-as-Unknown}
 use Rattle.answers.specs.declared.Ending.{Ending as EndingEnum}
 use Rattle.answers.specs.declared.Ending.TheVariants.{LookedUp, Placed, Changed, Removed, NoPerch, Unknown}
 use Rattle.answers.specs.declared.Completion.{Completion as CompletionStruct}
-use Rattle.answers.specs.declared.Progress.{Progress as ProgressEnum}
-use Rattle.answers.specs.declared.Progress.TheVariants.{Underway as Progress-as-Underway, Ended as Progress-as-Ended}
 use Rattle.answers.specs.declared.StepResult.{StepResult}
-use Rattle.answers.specs.declared.StepResult.TheVariants.{Underway as StepResult-as-Underway, Ended as StepResult-as-Ended, Walked, WalkedLast}
-use Rattle.answers.specs.declared.StepAnswer.{StepAnswer}
-use Rattle.answers.specs.declared.StepAnswer.TheVariants.{Stepped as StepAnswer-as-Stepped, Refused as StepAnswer-as-Refused}
-use Rattle.answers.specs.declared.StartAnswer.{StartAnswer}
-use Rattle.answers.specs.declared.StartAnswer.TheVariants.{Started as StartAnswer-as-Started, Refused as StartAnswer-as-Refused}
-use Rattle.answers.specs.declared.EntryAnswer.{EntryAnswer}
-use Rattle.answers.specs.declared.EntryAnswer.TheVariants.{Started as EntryAnswer-as-Started, GivenAgain as EntryAnswer-as-GivenAgain, Refused as EntryAnswer-as-Refused}
-use Rattle.answers.specs.declared.TurnAnswer.{TurnAnswer}
-use Rattle.answers.specs.declared.TurnAnswer.TheVariants.{Served as TurnAnswer-as-Served, Refused as TurnAnswer-as-Refused}
-use Rattle.answers.specs.declared.CallAnswer.{CallAnswer}
-use Rattle.answers.specs.declared.CallAnswer.TheVariants.{Started as CallAnswer-as-Started, GivenAgain as CallAnswer-as-GivenAgain, Stepped as CallAnswer-as-Stepped, Served as CallAnswer-as-Served, Refused as CallAnswer-as-Refused}
-use Rattle.answers.specs.declared.WholeAnswer.{WholeAnswer}
-use Rattle.answers.specs.declared.WholeAnswer.TheVariants.{Ended as WholeAnswer-as-Ended, Refused as WholeAnswer-as-Refused}
-use Rattle.answers.specs.declared.FreshAnswer.{FreshAnswer}
-use Rattle.answers.specs.declared.FreshAnswer.TheVariants.{Made, Refused as FreshAnswer-as-Refused}
-use Rattle.answers.specs.declared.TotalAnswer.{TotalAnswer}
-use Rattle.answers.specs.declared.TotalAnswer.TheVariants.{Total, Refused as TotalAnswer-as-Refused}
-use Rattle.answers.specs.declared.DisplayAnswer.{DisplayAnswer}
-use Rattle.answers.specs.declared.DisplayAnswer.TheVariants.{Shown, Refused as DisplayAnswer-as-Refused}
+use Rattle.answers.specs.declared.StepResult.TheVariants.{Underway, Ended, Walked, WalkedLast}
+use Rattle.answers.specs.declared.Entered.{Entered}
+use Rattle.answers.specs.declared.Entered.TheVariants.{Started as Entered-as-Started, GivenAgain as Entered-as-GivenAgain}
+use Rattle.answers.specs.declared.Served.{Served}
+use Rattle.answers.specs.declared.Given.{Given}
+use Rattle.answers.specs.declared.Given.TheVariants.{Started as Given-as-Started, GivenAgain as Given-as-GivenAgain, Stepped as Given-as-Stepped, Served as Given-as-Served}
 
 -- what ends a lookup, put, change or removal: "A step that ends an operation hands back its answer"
 pub data Ending : Type 0 where
@@ -96,71 +80,79 @@ paper_ending Unknown = ended_with 7
 abbrev pub paper_completion : CompletionStruct → Completion
 paper_completion completion = completed (paper_ending completion.ending) completion.steps
 
--- what a put, change or removal comes to in a step
-abbrev pub paper_progress : ProgressEnum → Progress
-paper_progress Progress-as-Underway = continues
-paper_progress (Progress-as-Ended ending) = finishes (paper_ending ending)
+-- what a put, change or removal comes to in a step: its ending, or none while it goes on
+abbrev pub paper_progress : Option EndingEnum → Progress
+paper_progress None = continues
+paper_progress (Some ending) = finishes (paper_ending ending)
+
+-- the answer of a call: what it gives, or "refused by that number"
+abbrev pub paper_answer : {A : Type 0} → (A → Answer) → Result A Refusal → Answer
+paper_answer paper (Ok given) = paper given
+paper_answer paper (Err r) = refused (number_of r)
 
 -- a step that is carried out
 abbrev pub paper_result : StepResult → Answer
-paper_result StepResult-as-Underway = underway
-paper_result (StepResult-as-Ended completion) = ended (paper_completion completion)
+paper_result Underway = underway
+paper_result (Ended completion) = ended (paper_completion completion)
 paper_result (Walked word) = walked word
 paper_result (WalkedLast word) = walked_last word
 
 -- a step, a reader's or the writer's
-abbrev pub paper_step : StepAnswer → Answer
-paper_step (StepAnswer-as-Stepped result) = paper_result result
-paper_step (StepAnswer-as-Refused r) = refused (number_of r)
+abbrev pub paper_step : Result StepResult Refusal → Answer
+paper_step = paper_answer paper_result
 
 -- starting an operation
-abbrev pub paper_start : StartAnswer → Answer
-paper_start StartAnswer-as-Started = started
-paper_start (StartAnswer-as-Refused r) = refused (number_of r)
+abbrev pub paper_start : Result ⊤ Refusal → Answer
+paper_start = paper_answer (λ (_ : ⊤). started)
 
 -- a station's stored answer: "with the new value or with 7"
-unfoldable pub stored_answer : CommandAnswer → Ending
-stored_answer (Value value) = changed value
-stored_answer CommandAnswer-as-Unknown = ended_with 7
+unfoldable pub stored_answer : Option ℕ → Ending
+stored_answer (Some value) = changed value
+stored_answer None = ended_with 7
+
+-- the command entry, where it is not refused
+abbrev pub paper_entered : Entered → Answer
+paper_entered Entered-as-Started = started
+paper_entered (Entered-as-GivenAgain answer steps) = given_again (completed (stored_answer answer) steps)
 
 -- the command entry
-abbrev pub paper_entry : EntryAnswer → Answer
-paper_entry EntryAnswer-as-Started = started
-paper_entry (EntryAnswer-as-GivenAgain answer steps) = given_again (completed (stored_answer answer) steps)
-paper_entry (EntryAnswer-as-Refused r) = refused (number_of r)
+abbrev pub paper_entry : Result Entered Refusal → Answer
+paper_entry = paper_answer paper_entered
+
+-- a turn that serves a party
+abbrev pub paper_served : Served → Answer
+paper_served turn = served turn.party (paper_result turn.result)
 
 -- a turn
-abbrev pub paper_turn : TurnAnswer → Answer
-paper_turn (TurnAnswer-as-Served party result) = served party (paper_result result)
-paper_turn (TurnAnswer-as-Refused r) = refused (number_of r)
+abbrev pub paper_turn : Result Served Refusal → Answer
+paper_turn = paper_answer paper_served
+
+-- any call of a list, where it is not refused
+abbrev pub paper_given : Given → Answer
+paper_given Given-as-Started = started
+paper_given (Given-as-GivenAgain answer steps) = given_again (completed (stored_answer answer) steps)
+paper_given (Given-as-Stepped result) = paper_result result
+paper_given (Given-as-Served turn) = paper_served turn
 
 -- any call of a list
-abbrev pub paper_call : CallAnswer → Answer
-paper_call CallAnswer-as-Started = started
-paper_call (CallAnswer-as-GivenAgain answer steps) = given_again (completed (stored_answer answer) steps)
-paper_call (CallAnswer-as-Stepped result) = paper_result result
-paper_call (CallAnswer-as-Served party result) = served party (paper_result result)
-paper_call (CallAnswer-as-Refused r) = refused (number_of r)
+abbrev pub paper_call : Result Given Refusal → Answer
+paper_call = paper_answer paper_given
 
 -- an operation that is carried out whole
-abbrev pub paper_whole : WholeAnswer → Answer
-paper_whole (WholeAnswer-as-Ended completion) = ended (paper_completion completion)
-paper_whole (WholeAnswer-as-Refused r) = refused (number_of r)
+abbrev pub paper_whole : Result CompletionStruct Refusal → Answer
+paper_whole = paper_answer (λ (completion : CompletionStruct). ended (paper_completion completion))
 
 -- making a fresh record
-abbrev pub paper_fresh : FreshAnswer → Answer
-paper_fresh Made = gives []
-paper_fresh (FreshAnswer-as-Refused r) = refused (number_of r)
+abbrev pub paper_fresh : Result ⊤ Refusal → Answer
+paper_fresh = paper_answer (λ (_ : ⊤). gives [])
 
 -- the disabled total
-abbrev pub paper_total : TotalAnswer → Answer
-paper_total (Total count) = gives (count ∷ [])
-paper_total (TotalAnswer-as-Refused r) = refused (number_of r)
+abbrev pub paper_total : Result ℕ Refusal → Answer
+paper_total = paper_answer (λ (count : ℕ). gives (count ∷ []))
 
 -- the one-line display
-abbrev pub paper_display : DisplayAnswer → Answer
-paper_display (Shown point) = gives (point ∷ [])
-paper_display (DisplayAnswer-as-Refused r) = refused (number_of r)
+abbrev pub paper_display : Result ℕ Refusal → Answer
+paper_display = paper_answer (λ (point : ℕ). gives (point ∷ []))
 
 -- an operation has been started or goes on, so that a step of it comes next
 abbrev pub is_underway : Answer → Bool

@@ -1,10 +1,10 @@
-// What the calls answer, an enum for each kind of call, and what they leave besides the slots.
+// What the calls give, a type for each kind of call that gives something, and what they leave besides the slots.
 #![tactic(auto)]
 
 ghost use Rattle.std.specs.Prelude.{◌≡◌};
-ghost use Rattle.answers.specs.Answers.{step_answer, paper_progress, paper_result};
+ghost use Rattle.answers.specs.Answers.{Answer, step_answer, paper_progress, paper_result, paper_entered, paper_served, paper_given, started};
 
-use record::{CommandAnswer, Record};
+use record::Record;
 use refusal::Refusal;
 
 // What ends a lookup, put, change or removal.
@@ -39,13 +39,6 @@ pub struct Completion {
     pub steps: u32,
 }
 
-// What a put, change or removal comes to in a step.
-#[derive(Clone, Copy)]
-pub enum Progress {
-    Underway,
-    Ended(Ending),
-}
-
 // What a step gives that is carried out.
 #[derive(Clone, Copy)]
 pub enum StepResult {
@@ -57,127 +50,90 @@ pub enum StepResult {
     WalkedLast(u64),
 }
 
-// Of a step, a reader's or the writer's.
+// What the command entry gives.
 #[derive(Clone, Copy)]
-pub enum StepAnswer {
-    Stepped(StepResult),
-    Refused(Refusal),
-}
-
-// Of the calls that start an operation.
-#[derive(Clone, Copy)]
-pub enum StartAnswer {
-    Started,
-    Refused(Refusal),
-}
-
-// Of the command entry.
-#[derive(Clone, Copy)]
-pub enum EntryAnswer {
+pub enum Entered {
     Started,
     // the station's last command again: its stored answer, which takes no step
-    GivenAgain { answer: CommandAnswer, steps: u32 },
-    Refused(Refusal),
+    GivenAgain { answer: Option<u32>, steps: u32 },
 }
 
-// Of a turn.
+// What a turn gives: the party served, 0 the writer and n + 1 reader n, and what its step gave.
 #[derive(Clone, Copy)]
-pub enum TurnAnswer {
-    // the party served, 0 the writer and n + 1 reader n, and what its step gave
-    Served { party: u32, result: StepResult },
-    Refused(Refusal),
+pub struct Served {
+    pub party: u32,
+    pub result: StepResult,
 }
 
-// Of any call of a list: each answer of the four kinds above once.
+// What any call of a list gives: each thing that some kind of call gives, once.
 #[derive(Clone, Copy)]
-pub enum CallAnswer {
+pub enum Given {
     Started,
-    GivenAgain { answer: CommandAnswer, steps: u32 },
+    GivenAgain { answer: Option<u32>, steps: u32 },
     Stepped(StepResult),
-    Served { party: u32, result: StepResult },
-    Refused(Refusal),
+    Served(Served),
 }
 
-// Of an operation that is carried out whole.
+// What a call leaves: its answer, and the record. The answer lies in front: behind the record there may be
+// padding before one that holds a word, with which the compiler copies the record more often.
 #[derive(Clone, Copy)]
-pub enum WholeAnswer {
-    Ended(Completion),
-    Refused(Refusal),
-}
-
-// Of `fresh`.
-#[derive(Clone, Copy)]
-pub enum FreshAnswer {
-    Made,
-    Refused(Refusal),
-}
-
-// Of `disabled_total`.
-#[derive(Clone, Copy)]
-pub enum TotalAnswer {
-    Total(u32),
-    Refused(Refusal),
-}
-
-// Of `disabled_point`.
-#[derive(Clone, Copy)]
-pub enum DisplayAnswer {
-    Shown(u32),
-    Refused(Refusal),
-}
-
-// What a start leaves.
-#[derive(Clone, Copy)]
-pub struct StartOutcome {
-    pub panel: Record,
-    pub answer: StartAnswer,
-}
-
-// What the command entry leaves.
-#[derive(Clone, Copy)]
-pub struct EntryOutcome {
-    pub panel: Record,
-    pub answer: EntryAnswer,
-}
-
-// What a step leaves. An answer that holds a word lies in front of the record: behind it there may be
-// padding between the two, with which the compiler copies the record more often.
-#[derive(Clone, Copy)]
-pub struct StepOutcome {
-    pub answer: StepAnswer,
+pub struct Outcome<T> {
+    pub answer: Result<T, Refusal>,
     pub panel: Record,
 }
 
-// What a turn leaves.
-#[derive(Clone, Copy)]
-pub struct TurnOutcome {
-    pub answer: TurnAnswer,
-    pub panel: Record,
+// What one kind of call gives, among what all calls give.
+pub trait CallResult {
+    // in document 01's words
+    ghost paper: { Self → Answer };
+
+    fn given(self) -> Given
+        ensures { paper_given result ≡ paper self };
 }
 
-// What any call of a list leaves.
-#[derive(Clone, Copy)]
-pub struct CallOutcome {
-    pub answer: CallAnswer,
-    pub panel: Record,
+// A start gives nothing but that the operation has been started.
+impl CallResult for () {
+    ghost paper = { λ _. started };
+
+    fn given(self) -> Given {
+        Given::Started
+    }
 }
 
-// What `fresh` leaves.
-#[derive(Clone, Copy)]
-pub struct FreshOutcome {
-    pub panel: Record,
-    pub answer: FreshAnswer,
+impl CallResult for Entered {
+    ghost paper = { paper_entered };
+
+    fn given(self) -> Given {
+        match self {
+            Entered::Started => Given::Started,
+            Entered::GivenAgain { answer, steps } => Given::GivenAgain { answer, steps },
+        }
+    }
 }
 
-// What a step gives, by what the put, change or removal has come to and by the steps counted so far.
-pub fn result_of(progress: Progress, steps: u32) -> StepResult
-    ensures { paper_result result ≡ step_answer steps (paper_progress progress) }
+impl CallResult for StepResult {
+    ghost paper = { paper_result };
+
+    fn given(self) -> Given {
+        Given::Stepped(self)
+    }
+}
+
+impl CallResult for Served {
+    ghost paper = { paper_served };
+
+    fn given(self) -> Given {
+        Given::Served(self)
+    }
+}
+
+// What a step gives, by the ending that the put, change or removal has come to, none while it is underway, and
+// by the steps counted so far.
+pub fn result_of(ending: Option<Ending>, steps: u32) -> StepResult
+    ensures { paper_result result ≡ step_answer steps (paper_progress ending) }
 {
-    match progress {
-        Progress::Underway => StepResult::Underway,
-        Progress::Ended(ending) => StepResult::Ended(Completion {
-            ending: ending,
-            steps: steps,
-        }),
+    match ending {
+        None => StepResult::Underway,
+        Some(ending) => StepResult::Ended(Completion { ending, steps }),
     }
 }

@@ -8,62 +8,40 @@ ghost use Rattle.text_buffer.specs.Filling.{filled_by, with_bytes, with_room, wr
 ghost use Rattle.bench_lines.specs.Printed.{operation_line};
 ghost use Rattle.bench.specs.Lines.{Runs};
 
-use answers::WholeAnswer;
+use bench_lines::Lines;
 use line::{CommandLine, Line};
 use record::Record;
+use refusal::Refusal;
 use std::io;
 use std::io::Write;
-use whole_operations::{Changes, Written, whole_lookup, whole_put, whole_removal};
+use whole_operations::{Changes, Finished, whole_lookup, whole_put, whole_removal};
 
-// What a line changes in the record, and how much of the output's buffer is in use.
-#[derive(Clone, Copy)]
-pub(crate) struct Done {
-    pub changes: Changes,
-    pub filled: usize,
-}
-
-// Of a line that leaves a record of this reach as it is.
-#[tactic(auto, unfolding(whole_operations::specs::Whole::leaves, record::specs::Parts::with_count, record::specs::Parts::with_counts, record::specs::Parts::with_numbered, record::specs::Parts::with_reach))]
-fn unchanged(reach: u32, filled: usize) -> Done
-    ensures { ((panel : Record) → panel.reach ≡ reach → leaves panel result.changes ≡ panel) × (result.filled ≡ filled) }
+// What a line changes that leaves a record of this reach as it is.
+#[tactic(auto, unfolding(whole_operations::specs::Whole::leaves, whole_operations::specs::Whole::with_recount, record::specs::Parts::with_reach))]
+fn unchanged(reach: u32) -> Changes
+    ensures { (panel : Record) → panel.reach ≡ reach → leaves panel result ≡ panel }
 {
-    Done {
-        changes: Changes {
-            reach: reach,
-            index: 0,
-            count: 0,
-        },
-        filled: filled,
-    }
+    Changes { reach, count: None }
 }
 
 // Prints what a put or removal came to on a record of this reach.
-fn wrote(
+fn wrote<const N: usize>(
+    lines: &mut Lines<N>,
     reach: u32,
-    filled: usize,
-    text: &mut [u8],
     letter: u8,
     point: u32,
-    written: Written,
-) -> Done
-    ensures { ((panel : Record) → panel.reach ≡ reach → leaves panel result.changes ≡ record_after panel written) × (filled_by result.filled text.new ≡ with_bytes (filled_by filled text.old) (operation_line letter point (paper_written written))) }
+    written: Result<Finished, Refusal>,
+) -> Changes
+    ensures { ((panel : Record) → panel.reach ≡ reach → leaves panel result ≡ record_after panel written) × (lines.new.text ≡ with_bytes lines.old.text (operation_line letter point (paper_written written))) }
 {
     match written {
-        Written::Refused(refusal) => {
-            let answer = WholeAnswer::Refused(refusal);
-            unchanged(
-                reach,
-                bench_lines::operation(filled, text, letter, point, answer),
-            )
+        Ok(finished) => {
+            lines.operation(letter, point, Ok(finished.completion));
+            finished.changes
         }
-        Written::Done(finished) => {
-            let changes = finished.changes;
-            let completion = finished.completion;
-            let answer = WholeAnswer::Ended(completion);
-            Done {
-                changes: changes,
-                filled: bench_lines::operation(filled, text, letter, point, answer),
-            }
+        Err(refusal) => {
+            lines.operation(letter, point, Err(refusal));
+            unchanged(reach)
         }
     }
 }
@@ -71,54 +49,49 @@ fn wrote(
 // Runs the line of this number, behind as much output as the buffer holds. Where the output takes none of that, the
 // line is not run.
 #[tactic(auto, unfolding(crate::specs::Lines::printed_line, crate::specs::Lines::runs_to))]
-pub(crate) fn run_line<W: Write>(
+pub(crate) fn run_line<W: Write, const N: usize>(
     to: &mut W,
-    panel: Record,
+    lines: &mut Lines<N>,
+    panel: &Record,
     slots: &mut [u64],
     line: Line,
     number: u64,
-    held: usize,
-    text: &mut [u8],
-) -> io::Result<Done>
-    ensures ran { IfOk result (λ done. Runs panel slots.old (command_of line) number (filled_by (with_room held (length text.old) 128) text.old) done.changes slots.new (filled_by done.filled text.new)) }
-    ensures written { OnOk result (Appends (W.contents to.old) (W.contents to.new) (written_for_room held text.old 128)) }
+) -> io::Result<Changes>
+    ensures ran { IfOk result (λ changes. Runs panel.now slots.old (command_of line) number (filled_by (with_room lines.old.text.used (length lines.old.text.bytes) 128) lines.old.text.bytes) changes slots.new lines.new.text) }
+    ensures written { OnOk result (Appends (W.contents to.old) (W.contents to.new) (written_for_room lines.old.text.used lines.old.text.bytes 128)) }
     ensures slots_kept { OnErr result (slots.new ≡ slots.old) }
-    ensures text_kept { OnErr result (text.new ≡ text.old) }
+    ensures text_kept { OnErr result (lines.new ≡ lines.old) }
 {
-    let filled = bench_lines::room(to, held, text)?;
-    Ok(run_in_room(panel, slots, line, number, filled, text))
+    lines.make_room(to)?;
+    Ok(run_in_room(lines, panel, slots, line, number))
 }
 
 // The same where the buffer has room for what the line prints.
-fn run_in_room(
-    panel: Record,
+fn run_in_room<const N: usize>(
+    lines: &mut Lines<N>,
+    panel: &Record,
     slots: &mut [u64],
     line: Line,
     number: u64,
-    filled: usize,
-    text: &mut [u8],
-) -> Done
-    ensures { Runs panel slots.old (command_of line) number (filled_by filled text.old) result.changes slots.new (filled_by result.filled text.new) }
+) -> Changes
+    ensures { Runs panel.now slots.old (command_of line) number lines.old.text result slots.new lines.new.text }
 {
-    let reach = panel.reach;
-    match line::command_of(line) {
-        CommandLine::Put(put) => {
-            let written = whole_put(panel, slots, put.point, put.value);
-            wrote(reach, filled, text, b'P', put.point, written)
+    match line.command() {
+        Some(CommandLine::Put(put)) => {
+            let written = whole_put(*panel, slots, put.point, put.value);
+            wrote(lines, panel.reach, b'P', put.point, written)
         }
-        CommandLine::Lookup(point) => {
-            let answer = whole_lookup(panel, slots, 0, point);
-            unchanged(
-                reach,
-                bench_lines::operation(filled, text, b'L', point, answer),
-            )
+        Some(CommandLine::Lookup(point)) => {
+            lines.operation(b'L', point, whole_lookup(*panel, slots, 0, point));
+            unchanged(panel.reach)
         }
-        CommandLine::Removal(point) => {
-            let written = whole_removal(panel, slots, point);
-            wrote(reach, filled, text, b'R', point, written)
+        Some(CommandLine::Removal(point)) => {
+            let written = whole_removal(*panel, slots, point);
+            wrote(lines, panel.reach, b'R', point, written)
         }
-        CommandLine::Unreadable => {
-            unchanged(reach, bench_lines::unreadable(filled, text, number))
+        None => {
+            lines.unreadable(number);
+            unchanged(panel.reach)
         }
     }
 }

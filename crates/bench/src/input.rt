@@ -1,102 +1,54 @@
 // The input, a buffer at a time, and its lines.
-use line::{Field, Fields, Line, part_of};
+use crate::BUFFER;
+use line::{Line, part_of};
 use std::io::Read;
 
-// The line that is read, as far as the buffer has it.
-#[derive(Clone, Copy)]
-pub(crate) struct Reading {
-    pub line: Line,
-    // nothing of it is left to be read
-    pub is_whole: bool,
-    // the input has ended
-    pub is_last: bool,
-    // the next byte to read, of the count in the buffer
+#[derive(Drop)]
+pub(crate) struct Input<R: Read + Drop> {
+    from: R,
+    bytes: [u8; BUFFER],
+    // the next byte, and how many the buffer holds
     next: usize,
     count: usize,
+    has_ended: bool,
 }
 
-// One read of the input; 0 at its end, and where it fails.
-fn read<R: Read>(from: &mut R, bytes: &mut [u8]) -> usize {
-    match from.read(bytes) {
-        Ok(count) => count,
-        Err(_) => 0,
-    }
-}
-
-// The line goes on with the bytes of the buffer from `from` on.
-fn read_from(bytes: &[u8], line: Line, from: usize, count: usize, is_last: bool) -> Reading {
-    let part = part_of(bytes, line, from, count);
-    let read = part.line;
-    Reading {
-        line: read,
-        is_whole: part.whole,
-        is_last: is_last,
-        next: part.next,
-        count: count,
-    }
-}
-
-// The line goes on with what is read next. At the end of the input "the last line needs no line end":
-// what follows the last line end is a line, if it is not empty.
-pub(crate) fn read_on<R: Read>(from: &mut R, bytes: &mut [u8], reading: Reading) -> Reading {
-    let line = reading.line;
-    let count = read(from, bytes);
-    if count > 0 {
-        return read_from(bytes, line, 0, count, false);
-    }
-    Reading {
-        line: line,
-        is_whole: is_begun(line),
-        is_last: true,
-        next: 0,
-        count: 0,
-    }
-}
-
-// Line 1. It is missing where the input is empty, and then it cannot be read. Nothing says that a line ends, so
-// the loop has a bound, which no run reaches.
-pub(crate) fn first_line<R: Read>(from: &mut R, bytes: &mut [u8]) -> Reading {
-    let mut reading = read_from(bytes, line::begin(), 0, 0, false);
-    for _ in 0..u64::MAX {
-        reading = read_on(from, bytes, reading);
-        if reading.is_whole {
-            return reading;
-        }
-        if reading.is_last {
-            return reading;
+impl<R: Read + Drop> Input<R> {
+    pub(crate) fn new(from: R) -> Self {
+        Input {
+            from,
+            bytes: [0; BUFFER],
+            next: 0,
+            count: 0,
+            has_ended: false,
         }
     }
-    reading
-}
 
-// The line behind one that is whole. Behind the last one there is none.
-pub(crate) fn line_after(bytes: &[u8], reading: Reading) -> Reading {
-    read_from(
-        bytes,
-        line::begin(),
-        reading.next,
-        reading.count,
-        reading.is_last,
-    )
-}
-
-// The line has a byte.
-fn is_begun(line: Line) -> bool {
-    let ended = line.ended;
-    let last = line.last;
-    match ended {
-        Fields::Nothing => is_filled(last),
-        Fields::One(_) => true,
-        Fields::Two(_, _) => true,
-        Fields::TooMany => true,
+    // The next line, if there is one: "the last line needs no line end", so that what follows the last line end is a
+    // line, if it is not empty. Nothing says that a line ends, so the loop has a bound, which no run reaches.
+    pub(crate) fn next_line(&mut self) -> Option<Line> {
+        let mut line = Line::new();
+        for _ in 0..u64::MAX {
+            let part = part_of(&self.bytes, line, self.next, self.count);
+            line = part.line;
+            self.next = part.next;
+            if part.whole {
+                return Some(line);
+            }
+            if !self.read() {
+                break;
+            }
+        }
+        (line != Line::new()).then_some(line)
     }
-}
 
-fn is_filled(field: Field) -> bool {
-    match field {
-        Field::Empty => false,
-        Field::Letter(_) => true,
-        Field::Digits(_) => true,
-        Field::Other => true,
+    // Reads on, and says whether there is more: there is not where the input ends, or fails.
+    fn read(&mut self) -> bool {
+        if !self.has_ended {
+            self.next = 0;
+            self.count = self.from.read(&mut self.bytes).unwrap_or(0);
+            self.has_ended = self.count == 0;
+        }
+        !self.has_ended
     }
 }

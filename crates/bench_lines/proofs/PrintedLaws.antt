@@ -1,20 +1,12 @@
--- The line of an operation put together from its parts; and document 01's sample lines, by computation.
+-- Document 01's sample lines, by computation.
+use Rattle.std.specs.Prelude.{codes}
 use Prim.Native.Nat.{ℕ}
 use Prim.Native.String.{String}
 use mathlib.Core.List.{List, [], ◌∷◌, ◌++◌, map}
-use mathlib.Core.Path.{◌≡◌, refl, ap, ◌∙◌}
-use Rattle.refusal.specs.Refusals.{codes}
-use Rattle.answers.specs.declared.WholeAnswer.{WholeAnswer}
-use Rattle.answers.specs.Answers.{Ending, looked_up, placed, removed, ended_with, completed, Answer, ended, refused, paper_whole}
-use Rattle.text_buffer.specs.Filling.{Filled, with_byte, with_bytes, decimal_up_to, decimal_of, spaced}
-use Rattle.text_buffer.proofs.FillingLaws.{behind, one_byte}
+use mathlib.Core.Path.{◌≡◌, refl}
+use Rattle.answers.specs.Answers.{Ending, looked_up, placed, removed, ended_with, completed, Answer, ended, refused}
+use Rattle.text_buffer.specs.Filling.{decimal_up_to, decimal_of, spaced}
 use Rattle.bench_lines.specs.Printed.{line_end, refusal_shown, ending_shown, completion_shown, answer_shown, operation_line, unreadable_line, panel_line, refused_panel_line, last_line}
-
-pub operation_printed : {named pointed shown after : Filled} (before : Filled) (letter point : ℕ) (told answer : WholeAnswer) → told ≡ answer → named ≡ with_byte before letter → pointed ≡ with_bytes named (spaced point) → shown ≡ with_bytes pointed (answer_shown (paper_whole told)) → after ≡ with_byte shown 10 → after ≡ with_bytes before (operation_line letter point (paper_whole answer))
-unfolding operation_line
-operation_printed before letter point told answer same name number show end =
-    behind _ _ _ (behind _ _ _ (behind _ _ _ (one_byte _ letter name) number) show) (one_byte _ 10 end)
-    ∙ ap (with_bytes before) (ap (λ (a : WholeAnswer). operation_line letter point (paper_whole a)) same)
 
 abbrev line : String → List ℕ
 line text = codes text ++ line_end

@@ -1,6 +1,5 @@
 -- Document 01, "Bench program and values", and request N2: the printed lines, each as its bytes with the line end.
-use Rattle.std.specs.Prelude.{ℕ, List, [], ◌∷◌, ◌++◌}
-use Rattle.refusal.specs.Refusals.{codes}
+use Rattle.std.specs.Prelude.{ℕ, List, [], ◌∷◌, ◌++◌, codes}
 use Rattle.answers.specs.Answers.{Ending, looked_up, placed, changed, removed, ended_with, Completion, Answer, started, underway, ended, walked, walked_last, served, given_again, gives, refused}
 use Rattle.text_buffer.specs.Filling.{spaced}
 

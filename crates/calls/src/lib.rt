@@ -8,8 +8,8 @@ ghost use Rattle.std.specs.Prelude.{◌≡◌};
 ghost use Rattle.answers.specs.Answers.{paper_call, outcome};
 ghost use Rattle.calls.specs.Calls.{applied};
 
-use crate::outcomes::{entered, started, stepped, turned};
-use answers::CallOutcome;
+use crate::outcomes::outcome_of_call;
+use answers::{Given, Outcome};
 use command::start_command;
 use dispatcher::turn;
 use reader_starts::{start_lookup, start_walk};
@@ -33,20 +33,22 @@ pub enum Call {
 
 // Carries out a call. A command takes the frame lent; the other calls do not look at it.
 #[tactic(auto, unfolding(crate::specs::Calls::applied))]
-pub fn apply(panel: Record, slots: &mut [u64], call: Call, frame: &[u8]) -> CallOutcome
+pub fn apply(panel: Record, slots: &mut [u64], call: Call, frame: &[u8]) -> Outcome<Given>
     ensures { outcome result.panel slots.new (paper_call result.answer) ≡ applied panel slots.old call frame.now }
 {
     match call {
-        Call::StartLookup { reader, point } => started(start_lookup(panel, slots, reader, point)),
-        Call::StartWalk { reader } => started(start_walk(panel, slots, reader)),
-        Call::StepReader { reader } => stepped(step_reader(panel, slots, reader)),
-        Call::StartPut { point, value } => started(start_put(panel, slots, point, value)),
+        Call::StartLookup { reader, point } => outcome_of_call(start_lookup(
+            panel, slots, reader, point,
+        )),
+        Call::StartWalk { reader } => outcome_of_call(start_walk(panel, slots, reader)),
+        Call::StepReader { reader } => outcome_of_call(step_reader(panel, slots, reader)),
+        Call::StartPut { point, value } => outcome_of_call(start_put(panel, slots, point, value)),
         Call::StartChange { point, keep, flip } => {
-            started(start_change(panel, slots, point, keep, flip))
+            outcome_of_call(start_change(panel, slots, point, keep, flip))
         }
-        Call::StartRemoval { point } => started(start_removal(panel, slots, point)),
-        Call::StartCommand => entered(start_command(panel, slots, frame)),
-        Call::StepWriter => stepped(step_writer(panel, slots)),
-        Call::Turn => turned(turn(panel, slots)),
+        Call::StartRemoval { point } => outcome_of_call(start_removal(panel, slots, point)),
+        Call::StartCommand => outcome_of_call(start_command(panel, slots, frame)),
+        Call::StepWriter => outcome_of_call(step_writer(panel, slots)),
+        Call::Turn => outcome_of_call(turn(panel, slots)),
     }
 }

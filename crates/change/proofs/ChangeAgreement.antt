@@ -1,5 +1,6 @@
 -- A change's step, where the table agrees with a plain list: it goes on as it should, or ends with the answer that the plain list gives to the change, fed in the
 -- step that stores the slot or, where the point is unknown, in the last. A command's change is the change by its action's masks.
+use Rattle.std.specs.Prelude.{Option, Some, None}
 use Prim.Native.Nat.{ℕ, ◌<◌}
 use mathlib.Core.Bool.{Bool, true, false, cond}
 use mathlib.Core.Path.{◌≡◌, refl, sym, ap, subst}
@@ -18,8 +19,6 @@ use Rattle.record.specs.declared.Alteration.TheVariants.{Given, Commanded}
 use Rattle.record.specs.declared.Change.{Change}
 use Rattle.record.specs.declared.ChangeStage.{ChangeStage}
 use Rattle.record.specs.declared.ChangeStage.TheVariants.{Searching, Found as ChangeStage-as-Found}
-use Rattle.record.specs.declared.CommandAnswer.{CommandAnswer}
-use Rattle.record.specs.declared.CommandAnswer.TheVariants.{Value, Unknown as CommandAnswer-as-Unknown}
 use Rattle.record.specs.declared.WriterWork.TheVariants.{Changing}
 use Rattle.record.specs.Parts.{with_station, with_stations}
 use Rattle.slot_words.specs.Points.{valid_point}
@@ -32,7 +31,6 @@ use Rattle.plain_list.proofs.Changes.{agrees_stored}
 use Rattle.search.specs.declared.access.ReadAccess.{ReadAccess}
 use Rattle.search.specs.declared.Searched.{Searched}
 use Rattle.search.specs.declared.Searched.TheVariants.{Going, Answered}
-use Rattle.search.specs.declared.SearchAnswer.TheVariants.{Found as SearchAnswer-as-Found, Unknown}
 use Rattle.search.specs.Access.{word_read}
 use Rattle.search.specs.Search.{search_access, search_advance}
 use Rattle.search.proofs.TrailLaws.{Knows, search_knows}
@@ -77,7 +75,7 @@ module _ (panel : Record) (slots : List ℕ) (rows : Rows) (change : Change) (ag
   q = change.point
 
   -- the end of a change, which stores nothing but a station's last command in the record
-  at_end : (access : WriterAccess) (alteration : Alteration) (stored : CommandAnswer) (told : Told) → change.alteration ≡ alteration → stored_answer stored ≡ told.answer → Steady rows told.rows → Agrees m k panel.reach panel.counts (slots_after slots access) told.rows → Tight m k panel.reach told.rows → StepOK panel slots access (ends (alteration_ends alteration q stored) told.answer) rows told (Changing change)
+  at_end : (access : WriterAccess) (alteration : Alteration) (stored : Option ℕ) (told : Told) → change.alteration ≡ alteration → stored_answer stored ≡ told.answer → Steady rows told.rows → Agrees m k panel.reach panel.counts (slots_after slots access) told.rows → Tight m k panel.reach told.rows → StepOK panel slots access (ends (alteration_ends alteration q stored) told.answer) rows told (Changing change)
   unfolding alteration_ends ends updated with_station with_stations
   at_end access (Given masks) stored told is same steady after tight =
       ends_fed refl refl refl steady (not_a_command (ap is_commanded is) refl) (record { agrees = after; work = tight })
@@ -92,11 +90,11 @@ module _ (panel : Record) (slots : List ℕ) (rows : Rows) (change : Change) (ag
   searched : (read : ReadAccess) (after : Searched) → Tight m k panel.reach rows → Knows (entry_of q rows ≡ absent) m k q rows after → StepOK panel slots (Read read) (change_searched change after) rows (change_told change rows) (Changing change)
   unfolding change_searched change_answered command_ends change_row change_entry stored_answer slots_after
   searched read (Going search) tight h = on_stage read (Searching search) (h, tight)
-  searched read (Answered (SearchAnswer-as-Found place)) tight h = on_stage read (ChangeStage-as-Found place) (standing m k q rows place h, tight)
-  searched read (Answered Unknown) tight h =
+  searched read (Answered (Some place)) tight h = on_stage read (ChangeStage-as-Found place) (standing m k q rows place h, tight)
+  searched read (Answered None) tight h =
       let told : change_told change rows ≡ tells rows (ended_with 7) = rw h in
-      subst (λ t. StepOK panel slots (Read read) (ends (alteration_ends change.alteration q CommandAnswer-as-Unknown) (ended_with 7)) rows t (Changing change)) (sym told)
-      (at_end (Read read) change.alteration CommandAnswer-as-Unknown (tells rows (ended_with 7)) refl refl (steady_same rows) agrees tight)
+      subst (λ t. StepOK panel slots (Read read) (ends (alteration_ends change.alteration q None) (ended_with 7)) rows t (Changing change)) (sym told)
+      (at_end (Read read) change.alteration None (tells rows (ended_with 7)) refl refl (steady_same rows) agrees tight)
 
   abbrev new : Place → ℕ
   new place = new_value change.alteration place.value
@@ -107,8 +105,8 @@ module _ (panel : Record) (slots : List ℕ) (rows : Rows) (change : Change) (ag
   stores place stands tight =
       let told : change_told change rows ≡ tells (with_value q (new place) rows) (changed (new place)) = rw stands.found in
       let fits = new_fits change.alteration place.value (flip_fits m k panel.reach slots rows change.alteration flips) (agrees.held q place.value (position_of m q place.index) stands.found).fits in
-      subst (λ t. StepOK panel slots (store_word m q place.index (word_of q (new place))) (ends (alteration_ends change.alteration q (Value (new place))) (changed (new place))) rows t (Changing change)) (sym told)
-      (at_end (store_word m q place.index (word_of q (new place))) change.alteration (Value (new place)) (tells (with_value q (new place) rows) (changed (new place))) refl refl (steady_value q (new place) rows)
+      subst (λ t. StepOK panel slots (store_word m q place.index (word_of q (new place))) (ends (alteration_ends change.alteration q (Some (new place))) (changed (new place))) rows t (Changing change)) (sym told)
+      (at_end (store_word m q place.index (word_of q (new place))) change.alteration (Some (new place)) (tells (with_value q (new place) rows) (changed (new place))) refl refl (steady_value q (new place) rows)
       (agrees_stored m k panel.reach panel.counts slots rows agrees q place.value (position_of m q place.index) (new place) stands.found fits)
       (tight_value m k panel.reach q (new place) rows tight))
 

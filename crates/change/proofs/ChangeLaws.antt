@@ -1,5 +1,6 @@
 -- Laws of a change's step: it goes on in range or ends, and takes one of the steps that are left; so a change takes at most k + 2;
 -- it leaves the reach, and touches one of the slots lent.
+use Rattle.std.specs.Prelude.{Option, Some, None}
 use Prim.Native.Nat.{ℕ, ◌+◌, ◌≤◌, ◌<◌}
 use mathlib.Core.Path.{◌≡◌, refl}
 use mathlib.Core.Bool.{Bool, true, false}
@@ -14,8 +15,6 @@ use Rattle.record.specs.declared.Alteration.TheVariants.{Given, Commanded}
 use Rattle.record.specs.declared.Change.{Change}
 use Rattle.record.specs.declared.ChangeStage.{ChangeStage}
 use Rattle.record.specs.declared.ChangeStage.TheVariants.{Searching, Found as ChangeStage-as-Found}
-use Rattle.record.specs.declared.CommandAnswer.{CommandAnswer}
-use Rattle.record.specs.declared.CommandAnswer.TheVariants.{Value, Unknown as CommandAnswer-as-Unknown}
 use Rattle.record.specs.declared.WriterWork.TheVariants.{Changing}
 use Rattle.record.specs.Parts.{numbered_place}
 use Rattle.slot_words.specs.Points.{valid_point}
@@ -24,7 +23,6 @@ use Rattle.work_ranges.specs.WorkRanges.{steps_in_range, alteration_in_range, co
 use Rattle.record_ranges.specs.Ranges.{station_in_range}
 use Rattle.search.specs.declared.Searched.{Searched}
 use Rattle.search.specs.declared.Searched.TheVariants.{Going, Answered}
-use Rattle.search.specs.declared.SearchAnswer.TheVariants.{Found as SearchAnswer-as-Found, Unknown}
 use Rattle.search.specs.Search.{search_advance}
 use Rattle.search.proofs.SearchLaws.{search_inside, searched_left, searched_in_range, answer_in_range, OneStep, search_step}
 use Rattle.effects.specs.Memory.{store_word}
@@ -38,7 +36,7 @@ either_right true b e = refl
 either_right false b e = e
 
 -- "number, point, action and answer are stored": in range, as the command was, and at its station's place
-stored_fits : (k point : ℕ) (alteration : Alteration) (answer : CommandAnswer) → valid_point point ≡ true → alteration_in_range alteration ≡ true → update_in_range k (numbered_place 32 (commanding_station alteration)) (alteration_ends alteration point answer) ≡ true
+stored_fits : (k point : ℕ) (alteration : Alteration) (answer : Option ℕ) → valid_point point ≡ true → alteration_in_range alteration ≡ true → update_in_range k (numbered_place 32 (commanding_station alteration)) (alteration_ends alteration point answer) ≡ true
 unfolding update_in_range alteration_ends alteration_in_range command_in_range station_in_range
 stored_fits k point (Given masks) answer valid h = refl
 stored_fits k point (Commanded command) answer valid h =
@@ -70,8 +68,8 @@ module _ (k reach : ℕ) (change : Change) (valid : valid_point change.point ≡
   searched : (left : ℕ) (after : Searched) → OneStep k left after → OneEffect k reach place (left + 1) (change_searched change after)
   unfolding change_searched change_answered command_ends ends change_stage_in_range change_left searched_in_range searched_left answer_in_range writer_in_range writer_left
   searched left (Going search) s = at_stage _ (Searching search) s.fits (omega (arith, s.less))
-  searched left (Answered (SearchAnswer-as-Found place)) s = at_stage _ (ChangeStage-as-Found place) s.fits (omega (arith, s.less))
-  searched left (Answered Unknown) s =
+  searched left (Answered (Some place)) s = at_stage _ (ChangeStage-as-Found place) s.fits (omega (arith, s.less))
+  searched left (Answered None) s =
       record { work_fits = refl; update_fits = stored_fits k change.point change.alteration _ valid alters; ended = λ steps. refl; less = omega arith }
 
   at_any_stage : (word : ℕ) (stage : ChangeStage) → reach ≤ k → change_stage_in_range k stage ≡ true → OneEffect k reach place (change_left k stage) (change_stage_advance reach change stage word)
@@ -90,7 +88,7 @@ change_effect k reach change word r h =
 
 -- no step of a change stores the reach
 module _ (m reach : ℕ) (change : Change) (word : ℕ) where
-  ended_reach : (alteration : Alteration) (answer : CommandAnswer) → reach_after reach (alteration_ends alteration change.point answer) ≡ reach
+  ended_reach : (alteration : Alteration) (answer : Option ℕ) → reach_after reach (alteration_ends alteration change.point answer) ≡ reach
   unfolding alteration_ends
   ended_reach (Given masks) answer = refl
   ended_reach (Commanded command) answer = refl
@@ -98,13 +96,13 @@ module _ (m reach : ℕ) (change : Change) (word : ℕ) where
   searched_reach : (after : Searched) → reach_after reach (change_searched change after).update ≡ reach
   unfolding change_searched change_answered change_at going_on ends command_ends
   searched_reach (Going search) = refl
-  searched_reach (Answered (SearchAnswer-as-Found place)) = refl
-  searched_reach (Answered Unknown) = ended_reach change.alteration CommandAnswer-as-Unknown
+  searched_reach (Answered (Some place)) = refl
+  searched_reach (Answered None) = ended_reach change.alteration None
 
   stage_reach : (stage : ChangeStage) → reach_after reach (change_stage_advance reach change stage word).update ≡ reach_stored reach (change_stage_access m change stage)
   unfolding change_stage_advance change_stage_access change_stores command_ends store_word ends reach_stored
   stage_reach (Searching search) = searched_reach (search_advance reach change.point search word)
-  stage_reach (ChangeStage-as-Found place) = ended_reach change.alteration (Value (new_value change.alteration place.value))
+  stage_reach (ChangeStage-as-Found place) = ended_reach change.alteration (Some (new_value change.alteration place.value))
 
   pub change_reach : reach_after reach (change_advance reach change word).update ≡ reach_stored reach (change_access m change)
   unfolding change_advance change_access

@@ -1,20 +1,16 @@
 -- Document 01, "Steps": a change; and "Commands": a command's change.
-use Rattle.std.specs.Prelude.{ℕ, cond, eqb}
+use Rattle.std.specs.Prelude.{ℕ, cond, eqb, Option, Some, None}
 use Rattle.std.specs.Int.Bits.{bit_and, bit_xor}
 use Rattle.record.specs.declared.Alteration.{Alteration}
 use Rattle.record.specs.declared.Alteration.TheVariants.{Given, Commanded}
 use Rattle.record.specs.declared.Change.{Change}
 use Rattle.record.specs.declared.ChangeStage.{ChangeStage}
 use Rattle.record.specs.declared.ChangeStage.TheVariants.{Searching, Found as ChangeStage-as-Found}
-use Rattle.record.specs.declared.CommandAnswer.{CommandAnswer}
-use Rattle.record.specs.declared.CommandAnswer.TheVariants.{Value, Unknown as CommandAnswer-as-Unknown}
 use Rattle.record.specs.declared.Masks.{Masks}
 use Rattle.record.specs.declared.Place.{Place}
 use Rattle.record.specs.declared.WriterWork.TheVariants.{Changing}
 use Rattle.search.specs.declared.Searched.{Searched}
 use Rattle.search.specs.declared.Searched.TheVariants.{Going, Answered as Searched-as-Answered}
-use Rattle.search.specs.declared.SearchAnswer.{SearchAnswer}
-use Rattle.search.specs.declared.SearchAnswer.TheVariants.{Found as SearchAnswer-as-Found, Unknown as SearchAnswer-as-Unknown}
 use Rattle.answers.specs.Answers.{changed, ended_with}
 use Rattle.slot_words.specs.Word.{word_of}
 use Rattle.search.specs.Search.{search_access, search_advance}
@@ -51,7 +47,7 @@ unfoldable pub change_access : ℕ → Change → WriterAccess
 change_access m change = change_stage_access m change change.stage
 
 -- "When it ends, with the new value or with 7, number, point, action and answer are stored in that same step"
-unfoldable pub alteration_ends : Alteration → ℕ → CommandAnswer → Update
+unfoldable pub alteration_ends : Alteration → ℕ → Option ℕ → Update
 alteration_ends (Given masks) point answer = Nothing
 alteration_ends (Commanded command) point answer =
     Update-as-Answered
@@ -61,7 +57,7 @@ alteration_ends (Commanded command) point answer =
     })
 
 -- what the end of a change stores in the record
-unfoldable pub command_ends : Change → CommandAnswer → Update
+unfoldable pub command_ends : Change → Option ℕ → Update
 command_ends change answer = alteration_ends change.alteration change.point answer
 
 -- the station whose command the change is; 0 where it is no command's
@@ -75,9 +71,9 @@ change_at change stage =
     going_on (Changing (record { point = change.point; alteration = change.alteration; stage = stage; steps = change.steps }))
 
 -- "found, store"; "else 7"
-unfoldable pub change_answered : Change → SearchAnswer → WriterEffect
-change_answered change (SearchAnswer-as-Found place) = change_at change (ChangeStage-as-Found place)
-change_answered change SearchAnswer-as-Unknown = ends (command_ends change CommandAnswer-as-Unknown) (ended_with 7)
+unfoldable pub change_answered : Change → Option Place → WriterEffect
+change_answered change (Some place) = change_at change (ChangeStage-as-Found place)
+change_answered change None = ends (command_ends change None) (ended_with 7)
 
 -- "search"
 unfoldable pub change_searched : Change → Searched → WriterEffect
@@ -87,7 +83,7 @@ change_searched change (Searched-as-Answered answer) = change_answered change an
 -- the new word is stored; "a change the new value"
 unfoldable pub change_stores : Change → Place → WriterEffect
 change_stores change place =
-    ends (command_ends change (Value (new_value change.alteration place.value)))
+    ends (command_ends change (Some (new_value change.alteration place.value)))
     (changed (new_value change.alteration place.value))
 
 -- part 3, by the stage

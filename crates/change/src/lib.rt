@@ -4,16 +4,17 @@
 
 ghost use Rattle.std.specs.Prelude.{◌≡◌};
 ghost use Rattle.effects.specs.Effects.{paper_effect};
-ghost use Rattle.change.specs.Change.{action_masks, masks_of, new_value, change_access, command_ends, commanding_station, change_at, change_searched, change_answered, change_stores, change_advance};
+ghost use Rattle.change.specs.Change.{action_masks, masks_of, new_value, change_access, command_ends, commanding_station, change_at, change_answered, change_stores, change_advance};
 
 use answers::Ending;
 use effects::memory::{WriterAccess, store_word};
 use effects::update::{Effect, LastCommand, Update, ended, underway};
-use record::{Alteration, Change, ChangeStage, CommandAnswer, Masks, Place, Station, WriterWork};
-use search::{SearchAnswer, Searched, search_access, search_advance};
+use record::{Alteration, Change, ChangeStage, Command, Masks, Place, Station, WriterWork};
+use search::{Searched, search_access, search_advance};
 use slot_words::word::word_of;
 
-// Action 0 clears bit 0, 1 sets it, 2 toggles it.
+// Action 0 clears bit 0, 1 sets it, 2 toggles it. A record that no history leads to may hold an action above 2,
+// which is taken for a toggle.
 #[tactic(auto, unfolding(crate::specs::Change::action_masks))]
 pub fn action_masks(action: u32) -> Masks
     ensures { result ≡ action_masks action }
@@ -58,27 +59,25 @@ pub fn change_access(change: Change, m: u32) -> WriterAccess
     ensures { result ≡ change_access m change }
 {
     let point = change.point;
-    let alteration = change.alteration;
-    let stage = change.stage;
-    match stage {
+    match change.stage {
         ChangeStage::Searching(search) => WriterAccess::Read(search_access(search, point, m)),
         ChangeStage::Found(place) => {
-            let value = new_value(alteration, place.value);
+            let value = new_value(change.alteration, place.value);
             store_word(m, point, place.index, word_of(point, value))
         }
     }
 }
 
 // Part 3: what follows from the reach, or from the word read or stored.
-#[tactic(auto, unfolding(crate::specs::Change::change_advance, crate::specs::Change::change_stage_advance))]
+#[tactic(auto, unfolding(crate::specs::Change::change_advance, crate::specs::Change::change_searched, crate::specs::Change::change_stage_advance))]
 pub fn change_advance(change: Change, reach: u32, word: u64) -> Effect
     ensures { paper_effect result ≡ change_advance reach change word }
 {
-    let stage = change.stage;
-    match stage {
-        ChangeStage::Searching(search) => {
-            change_searched(change, search_advance(search, change.point, reach, word))
-        }
+    match change.stage {
+        ChangeStage::Searching(search) => match search_advance(search, change.point, reach, word) {
+            Searched::Going(search) => change_at(change, ChangeStage::Searching(search)),
+            Searched::Answered(answer) => change_answered(change, answer),
+        },
         ChangeStage::Found(place) => change_stores(change, place),
     }
 }
@@ -88,35 +87,16 @@ pub fn change_advance(change: Change, reach: u32, word: u64) -> Effect
 fn change_at(change: Change, stage: ChangeStage) -> Effect
     ensures { paper_effect result ≡ change_at change stage }
 {
-    let alteration = change.alteration;
-    underway(WriterWork::Changing(Change {
-        point: change.point,
-        alteration: alteration,
-        stage: stage,
-        steps: change.steps,
-    }))
-}
-
-#[tactic(auto, unfolding(crate::specs::Change::change_searched))]
-fn change_searched(change: Change, searched: Searched) -> Effect
-    ensures { paper_effect result ≡ change_searched change searched }
-{
-    match searched {
-        Searched::Going(search) => change_at(change, ChangeStage::Searching(search)),
-        Searched::Answered(answer) => change_answered(change, answer),
-    }
+    underway(WriterWork::Changing(Change { stage, ..change }))
 }
 
 // What the search's answer leads to.
 #[tactic(auto, unfolding(crate::specs::Change::change_answered))]
-fn change_answered(change: Change, answer: SearchAnswer) -> Effect
+fn change_answered(change: Change, answer: Option<Place>) -> Effect
     ensures { paper_effect result ≡ change_answered change answer }
 {
-    let SearchAnswer::Found(place) = answer else {
-        return ended(
-            command_ends(change, CommandAnswer::Unknown),
-            Ending::Unknown,
-        );
+    let Some(place) = answer else {
+        return ended(command_ends(change, None), Ending::Unknown);
     };
     change_at(change, ChangeStage::Found(place))
 }
@@ -126,34 +106,32 @@ fn change_answered(change: Change, answer: SearchAnswer) -> Effect
 fn change_stores(change: Change, place: Place) -> Effect
     ensures { paper_effect result ≡ change_stores change place }
 {
-    let alteration = change.alteration;
-    let value = new_value(alteration, place.value);
-    ended(
-        command_ends(change, CommandAnswer::Value(value)),
-        Ending::Changed(value),
-    )
+    let value = new_value(change.alteration, place.value);
+    ended(command_ends(change, Some(value)), Ending::Changed(value))
 }
 
 // What the end of a change stores in the record: of a command's change the command and its answer.
 #[tactic(auto, unfolding(crate::specs::Change::alteration_ends, crate::specs::Change::command_ends))]
-fn command_ends(change: Change, answer: CommandAnswer) -> Update
+fn command_ends(change: Change, answer: Option<u32>) -> Update
     ensures { result ≡ command_ends change answer }
 {
-    let alteration = change.alteration;
-    match alteration {
+    match change.alteration {
         Alteration::Given(_) => Update::Nothing,
-        Alteration::Commanded(command) => {
-            let last = Station {
-                number: command.number,
+        Alteration::Commanded(
+            Command {
+                station,
+                number,
+                action,
+            },
+        ) => Update::Answered(LastCommand {
+            station,
+            last: Station {
+                number,
                 point: change.point,
-                action: command.action,
-                answer: answer,
-            };
-            Update::Answered(LastCommand {
-                station: command.station,
-                last: last,
-            })
-        }
+                action,
+                answer,
+            },
+        }),
     }
 }
 

@@ -1,9 +1,10 @@
 -- Who has work, in one number: its digits tell it, and so the party due is the one that the code finds by them.
-use Rattle.std.proofs.Common.{◌≡◌, ℕ, zero, suc, ◌+◌, ◌-◌, ◌/◌, ◌%◌, ◌^◌, ◌<◌, ◌≤◌, Bool, true, false, cond, not, eqb, leb, List, [], ◌∷◌, length, get_or, drop, sym, refl, ap, ◌∙◌, lt_of_le_of_lt, zero-add, add-one, one-add, arith, drop_of_length-le, drop-cons, shr-shr, lt-ltb, eq-eqb, ne_eqb, leb-true}
+use Rattle.std.proofs.Common.{◌≡◌, ℕ, zero, suc, ◌+◌, ◌-◌, ◌/◌, ◌%◌, ◌^◌, ◌<◌, ◌≤◌, Bool, true, false, cond, not, eqb, List, [], ◌∷◌, length, get_or, drop, sym, refl, ap, ◌∙◌, lt_of_le_of_lt, zero-add, add-one, one-add, arith, drop_of_length-le, drop-cons, shr-shr, lt-ltb, eq-eqb, ne_eqb, le-leb, ◌⊎◌, inl, inr}
+use Rattle.std.proofs.lemmas.Bool.{lt-leb}
 use lib.Count.{count_leading_zeros}
 use lib.Bits.{bit_and, and_le_l}
 use Rattle.conditions.specs.Conditions.{both}
-use Rattle.conditions.proofs.ConditionLaws.{both_right, cond_holds}
+use Rattle.conditions.proofs.ConditionLaws.{cond_holds}
 use Rattle.record.specs.declared.Record.{Record}
 use Rattle.record.specs.declared.Reader.{Reader}
 use Rattle.record.specs.declared.WriterWork.{WriterWork}
@@ -54,12 +55,10 @@ module _ (work : WriterWork) (marks : ℕ) where
           let place : 15 - reader ≡ i = omega arith in
           reader_digit_lem reader (omega arith) ∙ rw place (ap (λ (n : ℕ). eqb n 1) (same (omega arith)))
 
-pub due_outside : (fits : Bool) (place marks : ℕ) (work : WriterWork) → both fits (leb place 16) ≡ false → due_by fits place work marks ≡ 18
-unfolding due_by
-due_outside fits place marks work outside = rw outside
-
-pub place_within : (fits : Bool) (place : ℕ) → both fits (leb place 16) ≡ true → place ≤ 16
-place_within fits place inside = leb-true place 16 (both_right fits (leb place 16) inside)
+pub due_outside : (fits : Bool) (place marks : ℕ) (work : WriterWork) → (fits ≡ false) ⊎ ((fits ≡ true) × (16 < place)) → 18 ≡ due_by fits place work marks
+unfolding due_by both
+due_outside fits place marks work (inl misfit) = rw misfit
+due_outside fits place marks work (inr past) = rw (past.0, lt-leb place 16 past.1)
 
 -- the party due, as the code finds it
 module _ (marks all : ℕ) (work : WriterWork) (same : all ≡ all_marked work marks) where
@@ -69,12 +68,11 @@ module _ (marks all : ℕ) (work : WriterWork) (same : all ≡ all_marked work m
   pub all_leads : 15 ≤ count_leading_zeros 32 all
   all_leads = leading_enough all (rw same (all_small work marks))
 
-  module _ (fits : Bool) (place : ℕ) (inside : both fits (leb place 16) ≡ true) where
+  module _ (fits : Bool) (place : ℕ) (fit : fits ≡ true) (low : place ≤ 16) where
     due_highest : highest (bit_and all (131072 / 2 ^ place - 1)) (count_leading_zeros 32 all - 15) ≡ due_by fits place work marks
-    unfolding due_by
+    unfolding due_by both
     due_highest =
-        let low : place ≤ 16 = place_within fits place inside in
-        rw (inside, same, from_place (all_marked work marks) place (omega arith))
+        rw (fit, le-leb place 16 low, same, from_place (all_marked work marks) place (omega arith))
         (sym (told_due (is_marked work marks) (all_marked work marks) (digits_tell work marks) place low (all_small work marks)))
 
     pub due_around : bit_and all (131072 / 2 ^ place - 1) ≡ 0 → count_leading_zeros 32 all - 15 ≡ due_by fits place work marks

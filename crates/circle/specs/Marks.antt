@@ -1,5 +1,5 @@
 -- Who has work, in one number: a binary digit for each reader, reader 15's the lowest, 1 for work. The code finds the party due by it.
-use Rattle.std.specs.Prelude.{ℕ, zero, suc, ◌+◌, ◌-◌, ◌/◌, ◌%◌, ◌^◌, Bool, cond, not, List, [], ◌∷◌, ◌==◌, nat_le, nat_lt}
+use Rattle.std.specs.Prelude.{ℕ, zero, suc, ◌+◌, ◌-◌, ◌/◌, ◌%◌, ◌^◌, Bool, cond, not, List, fold, ◌==◌, nat_le, nat_lt}
 use Rattle.conditions.specs.Conditions.{both}
 use Rattle.record.specs.declared.Reader.{Reader}
 use Rattle.record.specs.declared.WriterWork.{WriterWork}
@@ -12,8 +12,7 @@ marked_with marks reader = (marks + marks + cond (is_reader_idle reader.work) 0 
 
 -- the digits of these readers behind the others
 unfoldable pub marked_behind : ℕ → List Reader → ℕ
-marked_behind marks [] = marks
-marked_behind marks (reader ∷ rest) = marked_behind (marked_with marks reader) rest
+marked_behind = fold marked_with
 
 -- the writer's digit in front of those of sixteen readers
 unfoldable pub all_marked : WriterWork → ℕ → ℕ

@@ -3,11 +3,14 @@
 use Prim.Native.Nat.{ℕ, zero, suc, ◌≤◌}
 use mathlib.Core.Path.{◌≡◌, refl, sym, ap, ap₂, ◌∙◌}
 use mathlib.Core.Bool.{true, false}
-use mathlib.Core.List.{List}
+use mathlib.Core.List.{List, [], ◌∷◌}
+use mathlib.Core.Logic.{◌≢◌}
 use native.Mathlib.Omega.{arith}
-use borrow.Author.Tests.{eq-eqb}
+use borrow.Author.Tests.{eq-eqb, ne_eqb}
 use lib.Dec.{eqb}
 use lib.ListN.{length, get_or}
+use Rattle.std.specs.Prelude.{Some, None, Ok, Err, slice_get}
+use Rattle.std.proofs.lemmas.Option.{slice_get_within, get_or_from_slice_get}
 use Rattle.refusal.specs.declared.Refusal.{Refusal}
 use Rattle.refusal.specs.Refusals.{number_of}
 use Rattle.refusal.specs.Judging.{refuse_if}
@@ -16,10 +19,9 @@ use Rattle.record.specs.declared.Record.{Record}
 use Rattle.record.specs.Parts.{station_of}
 use Rattle.record_ranges.specs.Ranges.{in_range}
 use Rattle.answers.specs.Answers.{outcome, unless_refused}
-use Rattle.frame.specs.declared.Kind.{Kind}
 use Rattle.frame.specs.declared.Fields.{Fields}
 use Rattle.frame.specs.declared.Reading.{Reading}
-use Rattle.frame.specs.declared.ReadAnswer.TheVariants.{Frame, Refused}
+use Rattle.frame.specs.declared.Frame.{Frame}
 use Rattle.frame.specs.FieldMap.{map_of}
 use Rattle.frame.specs.Frames.{fields_in, read_refusal, no_fields, handed, read_frame}
 use Rattle.frame.specs.Answers.{paper_read}
@@ -42,18 +44,34 @@ unfolding receipt
 refused_receipt zero sent h = absurd (omega arith)
 refused_receipt (suc n) sent h = refl
 
-module _ (bytes : List ℕ) (some : eqb (length bytes) 0 ≡ false) (map : get_or bytes 0 0 ≡ 0x0F) where
+pub nothing_taken : (bytes : List ℕ) → None ≡ slice_get bytes 0 → record { refused = 8; sent = no_command } ≡ received_from bytes
+unfolding received_from receipt frame_refusal refuse_if
+nothing_taken [] e = refl
+nothing_taken (byte ∷ rest) e = cc
+
+begins : (bytes : List ℕ) (byte : ℕ) → Some byte ≡ slice_get bytes 0 → eqb (length bytes) 0 ≡ false
+begins bytes byte first = ne_eqb _ _ (λ e. omega (arith, slice_get_within bytes 0 byte (sym first)))
+
+pub other_map_taken : (bytes : List ℕ) (byte : ℕ) → Some byte ≡ slice_get bytes 0 → byte ≢ 0x0F → record { refused = 9; sent = no_command } ≡ received_from bytes
+unfolding received_from receipt frame_refusal refuse_if
+other_map_taken bytes byte first other =
+    rw (begins bytes byte first, get_or_from_slice_get bytes 0 byte 0 (sym first), ne_eqb byte 0x0F other)
+
+module _ (bytes : List ℕ) (first : Some 0x0F ≡ slice_get bytes 0) where
+  map : get_or bytes 0 0 ≡ 0x0F
+  map = get_or_from_slice_get bytes 0 0x0F 0 (sym first)
+
   same_refusal : frame_refusal bytes ≡ read_refusal bytes
   unfolding frame_refusal refuse_if
-  same_refusal = rw (some, eq-eqb _ _ map)
+  same_refusal = rw (begins bytes 0x0F first, eq-eqb _ _ map)
 
-  pub command_taken : (kind : Kind) (f : Fields) → paper_read (Frame kind f) ≡ read_frame bytes → record { refused = 0; sent = sent_of f } ≡ received_from bytes
+  pub command_taken : (frame : Frame) → paper_read (Ok frame) ≡ read_frame bytes → record { refused = 0; sent = sent_of frame.fields } ≡ received_from bytes
   unfolding read_frame received_from receipt sent_in
-  command_taken kind f e =
-      let r = frame_handed (read_refusal bytes) (get_or bytes 0 0) (map_of kind) (fields_in bytes (get_or bytes 0 0)) f e in
+  command_taken frame e =
+      let r = frame_handed (read_refusal bytes) (get_or bytes 0 0) (map_of frame.kind) (fields_in bytes (get_or bytes 0 0)) frame.fields e in
       ap₂ receipt (sym (same_refusal ∙ r.0)) (ap sent_of (r.1 ∙ ap (fields_in bytes) map))
 
-  pub refusal_taken : (r : Refusal) → paper_read (Refused r) ≡ read_frame bytes → record { refused = number_of r; sent = no_command } ≡ received_from bytes
+  pub refusal_taken : (r : Refusal) → paper_read (Err r) ≡ read_frame bytes → record { refused = number_of r; sent = no_command } ≡ received_from bytes
   unfolding read_frame received_from
   refusal_taken r e =
       let n = refusal_handed (read_refusal bytes) (get_or bytes 0 0) (number_of r) (fields_in bytes (get_or bytes 0 0)) (number_positive r) e in

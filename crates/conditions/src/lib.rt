@@ -1,5 +1,4 @@
-// Conditions joined by calls, since `&&` and `||` would split the proof of each caller; and conditions on
-// a number.
+// Conditions as functions, each with one contract, and conditions on a number.
 #![tactic(auto)]
 
 ghost use Rattle.std.specs.Prelude.{◌≡◌};
@@ -10,7 +9,7 @@ ghost use Rattle.conditions.specs.Conditions.{both, either, within, outside};
 pub fn both_hold(a: bool, b: bool) -> bool
     ensures { result ≡ both a b }
 {
-    if a { b } else { false }
+    a && b
 }
 
 // One of them holds, or both do.
@@ -18,15 +17,15 @@ pub fn both_hold(a: bool, b: bool) -> bool
 pub fn either_holds(a: bool, b: bool) -> bool
     ensures { result ≡ either a b }
 {
-    if a { true } else { b }
+    a || b
 }
 
 // x lies from `low` to `high`.
-#[tactic(auto, unfolding(crate::specs::Conditions::within))]
+#[tactic(auto, unfolding(crate::specs::Conditions::both, crate::specs::Conditions::within))]
 pub fn is_within(low: u32, x: u32, high: u32) -> bool
     ensures { result ≡ within low x high }
 {
-    both_hold(low <= x, x <= high)
+    low <= x && x <= high
 }
 
 // x lies below `low` or above `high`.
@@ -34,8 +33,5 @@ pub fn is_within(low: u32, x: u32, high: u32) -> bool
 pub fn is_outside(low: u32, x: u32, high: u32) -> bool
     ensures { result ≡ outside low x high }
 {
-    if x < low {
-        return true;
-    }
-    high < x
+    x < low || high < x
 }

@@ -11,13 +11,6 @@ use Rattle.counting.specs.declared.steps.OperationKind.{OperationKind}
 use Rattle.counting.specs.declared.steps.OperationKind.TheVariants.{Lookup, Put, Change, Removal}
 use Rattle.counting.specs.Steps.{step_bound, step_counted, reader_counted, writer_counted}
 
--- with at most 64 functions a bound is at most 2 * 64 + 2
-pub bound_fits : (kind : OperationKind) (k : ℕ) → k ≤ 64 → step_bound kind k ≤ 130
-bound_fits Lookup k h = omega arith
-bound_fits Put k h = omega arith
-bound_fits Change k h = omega arith
-bound_fits Removal k h = omega arith
-
 -- "The count in work runs from 0 to the operation's step bound"
 pub counted_within : (kind : OperationKind) (k steps : ℕ) → k ≤ 64 → step_counted kind k steps ≤ step_bound kind k
 unfolding step_counted

@@ -12,8 +12,5 @@ ghost use Rattle.counting.specs.Counting.{one_more};
 pub fn one_more(most: u32, count: u32) -> u32
     ensures { result ≡ one_more most count }
 {
-    if count < most {
-        return count + 1;
-    }
-    most
+    count.saturating_add(1).min(most)
 }

@@ -8,8 +8,11 @@ use native.Mathlib.Omega.{arith}
 use borrow.Author.Tests.{lt-ltb, le-ltb, ne_eqb, le-leb, not-true, not-false}
 use lib.Dec.{eqb, ltb, leb}
 use lib.ListN.{length}
+use Rattle.std.specs.Prelude.{Result, Ok, Err}
+use Rattle.std.specs.Result.{MatchResult, IsOkAnd}
 use Rattle.conditions.specs.Conditions.{both}
 use Rattle.conditions.proofs.ConditionLaws.{cond_holds}
+use Rattle.refusal.specs.declared.Refusal.{Refusal}
 use Rattle.refusal.specs.Judging.{refuse_if}
 use Rattle.record.specs.declared.Record.{Record}
 use Rattle.record.specs.declared.Lookup.{Lookup}
@@ -21,13 +24,14 @@ use Rattle.counting.specs.Steps.{reader_counted, steps_made}
 use Rattle.record_ranges.specs.Ranges.{in_range}
 use Rattle.record_ranges.proofs.Laws.{fields}
 use Rattle.answers.specs.declared.StepResult.{StepResult}
+use Rattle.answers.specs.declared.Served.{Served}
 use Rattle.answers.proofs.AnswerLaws.{result_not_refused}
-use Rattle.answers.specs.Answers.{served, refused, is_refused, paper_result, Progress, continues, finishes, step_answer, Outcome, outcome, unless_refused}
+use Rattle.answers.specs.Answers.{served, is_refused, paper_result, paper_step, paper_served, paper_turn, Progress, continues, finishes, step_answer, Outcome, outcome, unless_refused}
 use Rattle.search.specs.declared.Searched.{Searched}
 use Rattle.search.specs.declared.Searched.TheVariants.{Going, Answered}
 use Rattle.reader_step.specs.Reader.{ReaderEffect, lookup_effect, lookup_advance, walk_advance, reader_advance, work_refusal, step_refusal, work_runs, after_step, reader_runs, step_judged, step_reader}
 use Rattle.reader_step.proofs.StepWork.{judged_first}
-use Rattle.writer.specs.Step.{writer_access, writer_advance, after_step as writer-afterStep, writer_runs, step_writer}
+use Rattle.writer.specs.Step.{writer_access, writer_advance, after_step as writer_after_step, writer_runs, step_writer}
 use Rattle.effects.specs.Memory.{slot_stored, access_read}
 use Rattle.writer.specs.Work.{step_stored}
 use Rattle.writer.proofs.StepInPlace.{step_in_place}
@@ -82,7 +86,7 @@ module _ (panel : Record) (slots : List ℕ) (fits : in_range (length slots) pan
   reader_given reader low busy = rw (fits, le-ltb 15 reader low, busy) (advance_given panel.m panel.reach (reader_counted panel.k (work_of panel reader)) _)
 
   writer_given : is_writer_idle panel.writer.work ≡ false → is_refused (step_writer panel slots).answer ≡ false
-  unfolding writer_runs writer-afterStep
+  unfolding writer_runs writer_after_step
   writer_given busy =
       let access = writer_access panel (counted_work panel) in
       ap (λ (o : Outcome). is_refused o.answer) (allowed panel slots fits busy)
@@ -98,13 +102,15 @@ module _ (panel : Record) (slots : List ℕ) (fits : in_range (length slots) pan
       go false e = refl
 
 -- what a turn answers, by what the step gave
-pub answer_of_result : (due : ℕ) (result : StepResult) → served due (paper_result result) ≡ turn_answer due (paper_result result)
+pub turn_answered :
+    (due : ℕ) (answer : Result StepResult Refusal) (turned : Result Served Refusal)
+    → MatchResult answer (λ result. IsOkAnd turned (λ given. given ≡ record { party = due; result = result })) (λ r. turned ≡ Err r)
+    → paper_turn turned ≡ turn_answer due (paper_step answer)
 unfolding turn_answer
-answer_of_result due result = sym (ap (λ (b : Bool). cond b (paper_result result) (served due (paper_result result))) (result_not_refused result))
-
-pub answer_of_refusal : (due n : ℕ) → refused n ≡ turn_answer due (refused n)
-unfolding turn_answer
-answer_of_refusal due n = refl
+turn_answered due (Ok result) (Ok given) e =
+    ap paper_served e ∙ sym (ap (λ (b : Bool). cond b (paper_result result) (served due (paper_result result))) (result_not_refused result))
+turn_answered due (Ok result) (Err r) e = absurd e
+turn_answered due (Err r) turned e = ap paper_turn e
 
 due_fitting : (panel : Record) → panel.place ≤ 16 → length panel.readers ≡ 16 → cond (both true (leb panel.place 16)) (first_at_work (is_marked panel.writer.work (marked_behind 0 panel.readers)) 17 panel.place) 18 ≡ first_at_work (is_at_work panel) 17 panel.place
 unfolding both

@@ -1,45 +1,74 @@
-// A call's answer in a digest: the number of the case, then what it carries. The cases have numbers
-// behind those of the refusals.
-use crate::digest::{Digest, folded, three_folded, two_folded};
-use crate::state_digest::{command_answer_folded, word_folded};
-use answers::{CallAnswer, Completion, Ending, StepResult};
+// A call's answer in a digest. The cases have numbers behind those of the refusals.
+use crate::digest::{Digest, Digested};
+use answers::{Completion, Ending, Given, Served, StepResult};
+use refusal::Refusal;
 
-pub(crate) fn answer_folded(digest: Digest, answer: CallAnswer) -> Digest {
-    match answer {
-        CallAnswer::Started => folded(digest, 15),
-        CallAnswer::GivenAgain { answer, steps } => folded(
-            command_answer_folded(folded(digest, 16), answer),
-            steps,
-        ),
-        CallAnswer::Stepped(result) => result_folded(digest, result),
-        CallAnswer::Served { party, result } => {
-            result_folded(two_folded(digest, 26, party), result)
+impl Digested for Result<Given, Refusal> {
+    fn add_to(self, digest: &mut Digest) {
+        match self {
+            Ok(given) => given.add_to(digest),
+            Err(refusal) => digest.add(refusal.number()),
         }
-        CallAnswer::Refused(refusal) => folded(digest, refusal.number()),
     }
 }
 
-fn result_folded(digest: Digest, res: StepResult) -> Digest {
-    match res {
-        StepResult::Underway => folded(digest, 17),
-        StepResult::Ended(completion) => completion_folded(digest, completion),
-        StepResult::Walked(word) => word_folded(folded(digest, 24), word),
-        StepResult::WalkedLast(word) => word_folded(folded(digest, 25), word),
+impl Digested for Given {
+    fn add_to(self, digest: &mut Digest) {
+        match self {
+            Given::Started => digest.add(15),
+            Given::GivenAgain { answer, steps } => {
+                digest.add(16);
+                answer.add_to(digest);
+                digest.add(steps);
+            }
+            Given::Stepped(result) => result.add_to(digest),
+            Given::Served(Served { party, result }) => {
+                digest.add_all(&[26, party]);
+                result.add_to(digest);
+            }
+        }
     }
 }
 
-fn completion_folded(digest: Digest, completion: Completion) -> Digest {
-    let ending = completion.ending;
-    folded(ending_folded(digest, ending), completion.steps)
+// A station's stored answer.
+impl Digested for Option<u32> {
+    fn add_to(self, digest: &mut Digest) {
+        match self {
+            Some(value) => digest.add_all(&[0, value]),
+            None => digest.add(1),
+        }
+    }
 }
 
-fn ending_folded(digest: Digest, ending: Ending) -> Digest {
-    match ending {
-        Ending::LookedUp(value) => two_folded(digest, 18, value),
-        Ending::Placed(spot) => three_folded(digest, 19, spot.slot, spot.index),
-        Ending::Changed(value) => two_folded(digest, 20, value),
-        Ending::Removed(reach) => two_folded(digest, 21, reach),
-        Ending::NoPerch => folded(digest, 22),
-        Ending::Unknown => folded(digest, 23),
+impl Digested for StepResult {
+    fn add_to(self, digest: &mut Digest) {
+        match self {
+            StepResult::Underway => digest.add(17),
+            StepResult::Ended(Completion { ending, steps }) => {
+                ending.add_to(digest);
+                digest.add(steps);
+            }
+            StepResult::Walked(word) => {
+                digest.add(24);
+                digest.add_word(word);
+            }
+            StepResult::WalkedLast(word) => {
+                digest.add(25);
+                digest.add_word(word);
+            }
+        }
+    }
+}
+
+impl Digested for Ending {
+    fn add_to(self, digest: &mut Digest) {
+        match self {
+            Ending::LookedUp(value) => digest.add_all(&[18, value]),
+            Ending::Placed(spot) => digest.add_all(&[19, spot.slot, spot.index]),
+            Ending::Changed(value) => digest.add_all(&[20, value]),
+            Ending::Removed(reach) => digest.add_all(&[21, reach]),
+            Ending::NoPerch => digest.add(22),
+            Ending::Unknown => digest.add(23),
+        }
     }
 }

@@ -10,23 +10,20 @@ pub(crate) fn drawn_command(panel: Record, draws: Draws, points: u32) -> Sent {
     let last = station_of(panel, station);
     let point = drawn_point(draws.address, points);
     let action = drawn_action(draws.rest);
-    match upper(draws.content) % 16 {
-        0..=7 => sent(station, following(last.number, 1), point, action),
-        8..=10 => sent(station, last.number, last.point, last.action),
-        11 => sent(station, last.number, point, last.action),
-        12 => sent(station, last.number, last.point, action),
-        13 => sent(station, following(last.number, 2), point, action),
-        14 => sent(station, following(last.number, 16777215), point, action),
-        _ => sent(station, draws.content % 16777216, point, action),
-    }
-}
-
-fn sent(station: u32, number: u32, point: u32, action: u32) -> Sent {
+    let (number, point, action) = match upper(draws.content) % 16 {
+        0..=7 => (following(last.number, 1), point, action),
+        8..=10 => (last.number, last.point, last.action),
+        11 => (last.number, point, last.action),
+        12 => (last.number, last.point, action),
+        13 => (following(last.number, 2), point, action),
+        14 => (following(last.number, 16777215), point, action),
+        _ => (draws.content % 16777216, point, action),
+    };
     Sent {
-        station: station,
-        number: number,
-        point: point,
-        action: action,
+        station,
+        number,
+        point,
+        action,
     }
 }
 
@@ -51,5 +48,5 @@ fn drawn_action(drawn: u32) -> u32 {
 // A number so much above another, in the three bytes that a frame has for it: 0 follows the largest, and
 // 16777215 more is one less.
 fn following(number: u32, more: u32) -> u32 {
-    ((number as u64 + more as u64) % 16777216) as u32
+    ((u64::from(number) + u64::from(more)) % 16777216) as u32
 }

@@ -1,31 +1,49 @@
 // A digest of numbers: two checksums by two prime numbers, so that no two numbers of 32 bits count the
 // same in both.
+use slot_words::word::{point_of, value_of};
+use std::fmt;
 
 #[derive(Clone, Copy)]
 pub(crate) struct Digest {
-    pub(crate) first: u32,
-    pub(crate) second: u32,
+    first: u32,
+    second: u32,
 }
 
-// It begins with 1: to 0, numbers of 0 would add nothing.
-pub(crate) fn empty() -> Digest {
-    Digest {
-        first: 1,
-        second: 1,
+impl Digest {
+    // It begins with 1: to 0, numbers of 0 would add nothing.
+    pub(crate) fn new() -> Self {
+        Digest {
+            first: 1,
+            second: 1,
+        }
+    }
+
+    pub(crate) fn add(&mut self, number: u32) {
+        let (first, second) = (u64::from(self.first), u64::from(self.second));
+        self.first = ((first * 16807 + u64::from(number)) % 2147483647) as u32;
+        self.second = ((second * 48271 + u64::from(number)) % 4294967291) as u32;
+    }
+
+    pub(crate) fn add_all(&mut self, numbers: &[u32]) {
+        for number in numbers {
+            self.add(*number);
+        }
+    }
+
+    // A word counts by its two halves.
+    pub(crate) fn add_word(&mut self, word: u64) {
+        self.add(point_of(word));
+        self.add(value_of(word));
     }
 }
 
-pub(crate) fn folded(digest: Digest, number: u32) -> Digest {
-    Digest {
-        first: ((digest.first as u64 * 16807 + number as u64) % 2147483647) as u32,
-        second: ((digest.second as u64 * 48271 + number as u64) % 4294967291) as u32,
+impl fmt::Display for Digest {
+    fn fmt<W: fmt::Write>(&self, f: &mut fmt::Formatter<W>) -> fmt::Result {
+        write!(f, "{} {}", self.first, self.second)
     }
 }
 
-pub(crate) fn two_folded(digest: Digest, one: u32, other: u32) -> Digest {
-    folded(folded(digest, one), other)
-}
-
-pub(crate) fn three_folded(digest: Digest, one: u32, other: u32, third: u32) -> Digest {
-    folded(two_folded(digest, one, other), third)
+// What adds its numbers to a digest. An enum adds the number of its case, then what the case carries.
+pub(crate) trait Digested {
+    fn add_to(self, digest: &mut Digest);
 }

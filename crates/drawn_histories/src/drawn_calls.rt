@@ -7,24 +7,21 @@ pub(crate) fn drawn_call(draws: Draws, points: u32) -> Call {
     let point = drawn_point(draws.address, points);
     match upper(draws.which) % 64 {
         0..=4 => Call::StartPut {
-            point: point,
+            point,
             value: joined(draws.content, draws.rest),
         },
         5 | 6 => Call::StartChange {
-            point: point,
+            point,
             keep: joined(draws.content, draws.rest),
             flip: joined(draws.rest, draws.party),
         },
-        7..=9 => Call::StartRemoval { point: point },
+        7..=9 => Call::StartRemoval { point },
         10..=16 => Call::StartCommand,
-        17..=21 => Call::StartLookup {
-            reader: reader,
-            point: point,
-        },
-        22 | 23 => Call::StartWalk { reader: reader },
+        17..=21 => Call::StartLookup { reader, point },
+        22 | 23 => Call::StartWalk { reader },
         24..=39 => Call::StepWriter,
         40..=51 => Call::Turn,
-        _ => Call::StepReader { reader: reader },
+        _ => Call::StepReader { reader },
     }
 }
 

@@ -5,23 +5,11 @@ use crate::numbers::upper;
 use command::Sent;
 
 pub(crate) fn frame_of(sent: Sent, map: u8) -> [u8; 11] {
-    [
-        map,
-        last_byte(sent.station),
-        last_byte(sent.number / 65536),
-        last_byte(sent.number / 256),
-        last_byte(sent.number),
-        last_byte(sent.point / 16777216),
-        last_byte(sent.point / 65536),
-        last_byte(sent.point / 256),
-        last_byte(sent.point),
-        last_byte(sent.action),
-        0,
-    ]
-}
-
-fn last_byte(number: u32) -> u8 {
-    (number % 256) as u8
+    let [.., station] = sent.station.to_be_bytes();
+    let [_, n2, n1, n0] = sent.number.to_be_bytes();
+    let [p3, p2, p1, p0] = sent.point.to_be_bytes();
+    let [.., action] = sent.action.to_be_bytes();
+    [map, station, n2, n1, n0, p3, p2, p1, p0, action, 0]
 }
 
 // A command's map, and at times another kind's or none.

@@ -3,34 +3,23 @@
 #![tactic(auto)]
 
 use std::io;
+use ways::{ByValue, InPlace};
 
 mod answer_digest;
 mod commands;
 mod digest;
 mod drawn_calls;
 mod frames;
-mod histories;
-mod lending;
+mod history;
 mod numbers;
 mod panels;
-mod printing;
 mod state_digest;
+mod ways;
 mod work_digest;
 
-// How the calls are carried out: by `apply`, or each by the call in place of its kind.
-#[derive(Clone, Copy)]
-pub(crate) enum Way {
-    ByValue,
-    InPlace,
-}
-
 fn main(rt: HostRuntime) -> io::Result<()> {
-    run(&rt)
-}
-
-fn run(rt: &impl Print) -> io::Result<()> {
-    printing::heading(rt, b"by value")?;
-    panels::run(rt, Way::ByValue)?;
-    printing::heading(rt, b"in place")?;
-    panels::run(rt, Way::InPlace)
+    println!(rt; "by value")?;
+    panels::run::<ByValue>(&rt)?;
+    println!(rt; "in place")?;
+    panels::run::<InPlace>(&rt)
 }

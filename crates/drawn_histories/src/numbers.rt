@@ -28,11 +28,11 @@ pub(crate) fn draw(drawn: u32) -> Draws
     let content = next(address);
     let rest = next(content);
     Draws {
-        which: which,
-        party: party,
-        address: address,
-        content: content,
-        rest: rest,
+        which,
+        party,
+        address,
+        content,
+        rest,
     }
 }
 

@@ -1,60 +1,55 @@
 // The four panels and the histories on them.
-use crate::histories::calls;
-use crate::{Way, printing};
+ghost use Rattle.std.specs.Prelude.{◌^◌, ◌<◌};
+
+use crate::history::History;
+use crate::ways::Way;
+use record::Station;
 use record::parts::with_station;
-use record::{CommandAnswer, Record, Station};
 use std::io;
 
 // The generator runs on from panel to panel.
-pub(crate) fn run(rt: &impl Print, way: Way) -> io::Result<()> {
-    let after_one = one_slot(rt, way, 1)?;
-    let after_few = few_points(rt, way, after_one)?;
-    let after_full = full_table(rt, way, after_few)?;
-    many_slots(rt, way, after_full)?;
+pub(crate) fn run<W: Way>(rt: &impl Print) -> io::Result<()> {
+    // Two points for one slot, and station 4 comes to the end of its numbers.
+    let drawn = over::<W, 1>(rt, 3, Some(4), 2, 1)?;
+    // So few points that the reach often goes up and down.
+    let drawn = over::<W, 8>(rt, 4, None, 6, drawn)?;
+    // More points than slots: the reach is high, and puts find no perch.
+    let drawn = over::<W, 16>(rt, 16, None, 24, drawn)?;
+    // Walks of many steps, between which points come and go.
+    over::<W, 64>(rt, 16, None, 64, drawn)?;
     Ok(())
 }
 
-// Two points for one slot, and a station that comes to the end of its numbers.
-fn one_slot(rt: &impl Print, way: Way, drawn: u32) -> io::Result<u32> {
-    let mut slots = [0u64; 1];
-    let panel = panel_over(rt, &mut slots, 1, 3)?;
-    calls(rt, way, with_late_station(panel), &mut slots, 2, drawn)
-}
-
-// So few points that the reach often goes up and down.
-fn few_points(rt: &impl Print, way: Way, drawn: u32) -> io::Result<u32> {
-    let mut slots = [0u64; 8];
-    let panel = panel_over(rt, &mut slots, 8, 4)?;
-    calls(rt, way, panel, &mut slots, 6, drawn)
-}
-
-// More points than slots: the reach is high, and puts find no perch.
-fn full_table(rt: &impl Print, way: Way, drawn: u32) -> io::Result<u32> {
-    let mut slots = [0u64; 16];
-    let panel = panel_over(rt, &mut slots, 16, 16)?;
-    calls(rt, way, panel, &mut slots, 24, drawn)
-}
-
-// Walks of many steps, between which points come and go.
-fn many_slots(rt: &impl Print, way: Way, drawn: u32) -> io::Result<u32> {
-    let mut slots = [0u64; 64];
-    let panel = panel_over(rt, &mut slots, 64, 16)?;
-    calls(rt, way, panel, &mut slots, 64, drawn)
-}
-
-fn panel_over(rt: &impl Print, slots: &mut [u64], m: u32, k: u32) -> io::Result<Record> {
-    printing::panel(rt, m, k)?;
-    let made = fresh_panel::fresh(slots, m, k);
-    Ok(made.panel)
-}
-
-// Station 4 has ten numbers left.
-fn with_late_station(panel: Record) -> Record {
-    let last = Station {
-        number: 16777205,
-        point: 1,
-        action: 0,
-        answer: CommandAnswer::Unknown,
+// A history on a panel of M slots and k functions, with a station that has ten numbers left, if any; what the
+// generator has drawn last behind it.
+fn over<W: Way, const M: usize>(
+    rt: &impl Print,
+    k: u32,
+    late: Option<u32>,
+    points: u32,
+    drawn: u32,
+) -> io::Result<u32>
+    requires { M < 2 ^ 32 }
+{
+    let m = M as u32;
+    println!(rt; "panel {m} {k}")?;
+    let mut slots = [0u64; M];
+    let mut panel = fresh_panel::fresh(&mut slots, m, k).panel;
+    if let Some(station) = late {
+        let last = Station {
+            number: 16777205,
+            point: 1,
+            action: 0,
+            answer: None,
+        };
+        panel = with_station(panel, station, last);
+    }
+    let mut history = History {
+        panel,
+        slots: &mut slots,
+        points,
+        drawn,
     };
-    with_station(panel, 4, last)
+    history.run::<W>(rt)?;
+    Ok(history.drawn)
 }

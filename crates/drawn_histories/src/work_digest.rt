@@ -1,101 +1,139 @@
-// The work of the writer and of a reader in a digest: the number of the case, then what it carries.
-use crate::digest::{Digest, folded, three_folded, two_folded};
+// The work of the writer and of a reader in a digest.
+use crate::digest::{Digest, Digested};
 use record::{
     Alteration, Change, ChangeStage, Place, Put, PutStage, ReaderWork, Removal, RemovalStage,
     Search, WriterWork,
 };
 
-pub(crate) fn reader_work_folded(digest: Digest, work: ReaderWork) -> Digest {
-    match work {
-        ReaderWork::Idle => folded(digest, 0),
-        ReaderWork::LookingUp(lookup) => {
-            let search = lookup.search;
-            folded(
-                search_folded(two_folded(digest, 1, lookup.point), search),
-                lookup.steps,
-            )
-        }
-        ReaderWork::Walking(walk) => two_folded(digest, 2, walk.next),
-    }
-}
-
-pub(crate) fn writer_work_folded(digest: Digest, work: WriterWork) -> Digest {
-    match work {
-        WriterWork::Idle => folded(digest, 0),
-        WriterWork::Putting(put) => put_folded(folded(digest, 1), put),
-        WriterWork::Changing(change) => change_folded(folded(digest, 2), change),
-        WriterWork::Removing(removal) => removal_folded(folded(digest, 3), removal),
-    }
-}
-
-fn search_folded(digest: Digest, search: Search) -> Digest {
-    match search {
-        Search::Unread => folded(digest, 0),
-        Search::Probing(probe) => three_folded(digest, 1, probe.reach, probe.next),
-    }
-}
-
-fn place_folded(digest: Digest, place: Place) -> Digest {
-    two_folded(digest, place.index, place.value)
-}
-
-fn put_folded(digest: Digest, put: Put) -> Digest {
-    let stage = put.stage;
-    folded(
-        put_stage_folded(two_folded(digest, put.point, put.value), stage),
-        put.steps,
-    )
-}
-
-fn put_stage_folded(digest: Digest, stage: PutStage) -> Digest {
-    match stage {
-        PutStage::Searching(search) => search_folded(folded(digest, 0), search),
-        PutStage::Scanning(next) => two_folded(digest, 1, next),
-        PutStage::Found(place) => place_folded(folded(digest, 2), place),
-        PutStage::Chosen(index) => two_folded(digest, 3, index),
-    }
-}
-
-fn change_folded(digest: Digest, change: Change) -> Digest {
-    let alteration = change.alteration;
-    let stage = change.stage;
-    let altered = alteration_folded(folded(digest, change.point), alteration);
-    folded(change_stage_folded(altered, stage), change.steps)
-}
-
-fn alteration_folded(digest: Digest, alteration: Alteration) -> Digest {
-    match alteration {
-        Alteration::Given(masks) => three_folded(digest, 0, masks.keep, masks.flip),
-        Alteration::Commanded(command) => {
-            three_folded(
-                folded(digest, 1),
-                command.station,
-                command.number,
-                command.action,
-            )
+impl Digested for ReaderWork {
+    fn add_to(self, digest: &mut Digest) {
+        match self {
+            ReaderWork::Idle => digest.add(0),
+            ReaderWork::LookingUp(lookup) => {
+                digest.add_all(&[1, lookup.point]);
+                lookup.search.add_to(digest);
+                digest.add(lookup.steps);
+            }
+            ReaderWork::Walking(walk) => digest.add_all(&[2, walk.next]),
         }
     }
 }
 
-fn change_stage_folded(digest: Digest, stage: ChangeStage) -> Digest {
-    match stage {
-        ChangeStage::Searching(search) => search_folded(folded(digest, 0), search),
-        ChangeStage::Found(place) => place_folded(folded(digest, 1), place),
+impl Digested for WriterWork {
+    fn add_to(self, digest: &mut Digest) {
+        match self {
+            WriterWork::Idle => digest.add(0),
+            WriterWork::Putting(put) => {
+                digest.add(1);
+                put.add_to(digest);
+            }
+            WriterWork::Changing(change) => {
+                digest.add(2);
+                change.add_to(digest);
+            }
+            WriterWork::Removing(removal) => {
+                digest.add(3);
+                removal.add_to(digest);
+            }
+        }
     }
 }
 
-fn removal_folded(digest: Digest, removal: Removal) -> Digest {
-    let stage = removal.stage;
-    folded(
-        removal_stage_folded(folded(digest, removal.point), stage),
-        removal.steps,
-    )
+impl Digested for Search {
+    fn add_to(self, digest: &mut Digest) {
+        match self {
+            Search::Unread => digest.add(0),
+            Search::Probing(probe) => digest.add_all(&[1, probe.reach, probe.next]),
+        }
+    }
 }
 
-fn removal_stage_folded(digest: Digest, stage: RemovalStage) -> Digest {
-    match stage {
-        RemovalStage::Searching(search) => search_folded(folded(digest, 0), search),
-        RemovalStage::Found(place) => place_folded(folded(digest, 1), place),
-        RemovalStage::Lowering => folded(digest, 2),
+impl Digested for Place {
+    fn add_to(self, digest: &mut Digest) {
+        digest.add_all(&[self.index, self.value]);
+    }
+}
+
+impl Digested for Put {
+    fn add_to(self, digest: &mut Digest) {
+        digest.add_all(&[self.point, self.value]);
+        self.stage.add_to(digest);
+        digest.add(self.steps);
+    }
+}
+
+impl Digested for PutStage {
+    fn add_to(self, digest: &mut Digest) {
+        match self {
+            PutStage::Searching(search) => {
+                digest.add(0);
+                search.add_to(digest);
+            }
+            PutStage::Scanning(next) => digest.add_all(&[1, next]),
+            PutStage::Found(place) => {
+                digest.add(2);
+                place.add_to(digest);
+            }
+            PutStage::Chosen(index) => digest.add_all(&[3, index]),
+        }
+    }
+}
+
+impl Digested for Change {
+    fn add_to(self, digest: &mut Digest) {
+        digest.add(self.point);
+        self.alteration.add_to(digest);
+        self.stage.add_to(digest);
+        digest.add(self.steps);
+    }
+}
+
+impl Digested for Alteration {
+    fn add_to(self, digest: &mut Digest) {
+        match self {
+            Alteration::Given(masks) => digest.add_all(&[0, masks.keep, masks.flip]),
+            Alteration::Commanded(command) => {
+                digest.add_all(&[1, command.station, command.number, command.action]);
+            }
+        }
+    }
+}
+
+impl Digested for ChangeStage {
+    fn add_to(self, digest: &mut Digest) {
+        match self {
+            ChangeStage::Searching(search) => {
+                digest.add(0);
+                search.add_to(digest);
+            }
+            ChangeStage::Found(place) => {
+                digest.add(1);
+                place.add_to(digest);
+            }
+        }
+    }
+}
+
+impl Digested for Removal {
+    fn add_to(self, digest: &mut Digest) {
+        digest.add(self.point);
+        self.stage.add_to(digest);
+        digest.add(self.steps);
+    }
+}
+
+impl Digested for RemovalStage {
+    fn add_to(self, digest: &mut Digest) {
+        match self {
+            RemovalStage::Searching(search) => {
+                digest.add(0);
+                search.add_to(digest);
+            }
+            RemovalStage::Found(place) => {
+                digest.add(1);
+                place.add_to(digest);
+            }
+            RemovalStage::Lowering => digest.add(2),
+        }
     }
 }

@@ -1,5 +1,6 @@
 -- What is true of the writer's work between two of its steps, where the table agrees with a plain list (`WorkOK`), and what a step of it may come to (`StepOK`).
 -- The laws of put, change and removal show that each of their steps comes to one of these.
+use Rattle.std.specs.Prelude.{Option}
 use Prim.Native.Nat.{ℕ, ◌≤◌, ◌<◌}
 use mathlib.Core.Bool.{Bool, true, false}
 use mathlib.Core.Path.{◌≡◌, sym, ◌∙◌}
@@ -16,7 +17,6 @@ use Rattle.record.specs.declared.Change.{Change}
 use Rattle.record.specs.declared.Alteration.{Alteration}
 use Rattle.record.specs.declared.Alteration.TheVariants.{Given, Commanded}
 use Rattle.record.specs.declared.Command.{Command}
-use Rattle.record.specs.declared.CommandAnswer.{CommandAnswer}
 use Rattle.record.specs.declared.Station.{Station}
 use Rattle.record.specs.Parts.{with_numbered}
 use Rattle.record.specs.declared.ChangeStage.{ChangeStage}
@@ -118,7 +118,7 @@ is_command (Removing removal) = false
 -- what the last step of an operation leaves in the stations: nothing, or the command that it ends with what ends its change
 pub data Recorded (stations after : List Station) (ending : Ending) : WriterWork → Type 0 where
   not_a_command : {work : WriterWork} → is_command work ≡ false → after ≡ stations → Recorded stations after ending work
-  command_ends_lem : {change : Change} (command : Command) (stored : CommandAnswer) → change.alteration ≡ Commanded command → stored_answer stored ≡ ending → after ≡ with_numbered stations command.station (record { number = command.number; point = change.point; action = command.action; answer = stored }) → Recorded stations after ending (Changing change)
+  command_ends_lem : {change : Change} (command : Command) (stored : Option ℕ) → change.alteration ≡ Commanded command → stored_answer stored ≡ ending → after ≡ with_numbered stations command.station (record { number = command.number; point = change.point; action = command.action; answer = stored }) → Recorded stations after ending (Changing change)
 
 module _ (panel : Record) (slots : List ℕ) (access : WriterAccess) (effect : WriterEffect) where
   -- the step leaves the stations

@@ -18,7 +18,7 @@ pub record WriterEffect : Type 0 where
   pub update : Update
   pub progress : Progress
 
--- the same in the code's enum
+-- the same of the code's effect
 abbrev pub paper_effect : Effect → WriterEffect
 paper_effect effect = record { work = effect.work; update = effect.update; progress = paper_progress effect.progress }
 

@@ -26,10 +26,7 @@ pub fn store_word(m: u32, point: u32, index: u32, word: u64) -> WriterAccess
     ensures { result ≡ store_word m point index word }
 {
     let slot = hash::position(m, point, index);
-    WriterAccess::StoreSlot(Store {
-        slot: slot,
-        word: word,
-    })
+    WriterAccess::StoreSlot(Store { slot, word })
 }
 
 // The slot that an access stores; 0 where it stores none.
@@ -38,9 +35,8 @@ pub fn slot_stored(access: WriterAccess) -> u32
     ensures { result ≡ slot_stored access }
 {
     match access {
-        WriterAccess::Read(_) => 0,
-        WriterAccess::StoreReach(_) => 0,
         WriterAccess::StoreSlot(store) => store.slot,
+        _ => 0,
     }
 }
 
@@ -52,17 +48,19 @@ pub fn perform(slots: &mut [u64], access: WriterAccess) -> u64
     match access {
         WriterAccess::Read(read) => word_read(slots, read),
         WriterAccess::StoreReach(_) => 0,
-        WriterAccess::StoreSlot(store) => store_at(slots, store.slot, store.word),
+        WriterAccess::StoreSlot(store) => {
+            store_at(slots, store);
+            0
+        }
     }
 }
 
 // Stores the word; nothing where no slot is.
-fn store_at(slots: &mut [u64], slot: u32, word: u64) -> u64
-    ensures { (result ≡ 0) × (slots.new ≡ set slots.old slot word) }
+fn store_at(slots: &mut [u64], store: Store)
+    ensures { slots.new ≡ set slots.old store.slot store.word }
 {
-    let at = slot as usize;
+    let at = store.slot as usize;
     if at < slots.len() {
-        slots[at] = word;
+        slots[at] = store.word;
     }
-    0
 }

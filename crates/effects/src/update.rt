@@ -4,8 +4,8 @@ ghost use Rattle.std.specs.Prelude.{◌≡◌};
 ghost use Rattle.effects.specs.Effects.{updated, reach_after, count_place, count_after, station_after, going_on, ends, paper_effect};
 ghost use Rattle.answers.specs.Answers.{paper_ending};
 
-use crate::counts::{one_less, with_counted, with_uncounted};
-use answers::{Ending, Progress};
+use crate::counts::{with_counted, with_uncounted};
+use answers::Ending;
 use counting::one_more;
 use record::parts::{numbered_place, with_reach, with_station};
 use record::{Record, Station, WriterWork};
@@ -14,7 +14,7 @@ use record::{Record, Station, WriterWork};
 pub struct Effect {
     pub work: WriterWork,
     pub update: Update,
-    pub progress: Progress,
+    pub progress: Option<Ending>,
 }
 
 // What a step changes in the record besides the writer's work.
@@ -36,73 +36,62 @@ pub struct LastCommand {
     pub last: Station,
 }
 
-#[tactic(auto, unfolding(crate::specs::Effects::updated))]
-pub fn with_update(panel: Record, update: Update) -> Record
-    ensures { result ≡ updated panel update }
-{
-    match update {
-        Update::Nothing => panel,
-        Update::Reach(reach) => with_reach(panel, reach),
-        Update::Counted(index) => with_counted(panel, index),
-        Update::Uncounted(index) => with_uncounted(panel, index),
-        Update::Answered(command) => {
-            let last = command.last;
-            with_station(panel, command.station, last)
+impl Update {
+    // The record with it.
+    #[tactic(auto, unfolding(crate::specs::Effects::updated))]
+    pub fn applied_to(self, panel: Record) -> Record
+        ensures { result ≡ updated panel self }
+    {
+        match self {
+            Update::Nothing => panel,
+            Update::Reach(reach) => with_reach(panel, reach),
+            Update::Counted(index) => with_counted(panel, index),
+            Update::Uncounted(index) => with_uncounted(panel, index),
+            Update::Answered(command) => with_station(panel, command.station, command.last),
         }
     }
-}
 
-// The reach after an update.
-pub fn reach_after(reach: u32, update: Update) -> u32
-    ensures { result ≡ reach_after reach update }
-{
-    match update {
-        Update::Nothing => reach,
-        Update::Reach(new) => new,
-        Update::Counted(_) => reach,
-        Update::Uncounted(_) => reach,
-        Update::Answered(_) => reach,
+    // The reach after it.
+    pub fn reach_after(self, reach: u32) -> u32
+        ensures { result ≡ reach_after reach self }
+    {
+        match self {
+            Update::Reach(new) => new,
+            _ => reach,
+        }
     }
-}
 
-// The place of the count that an update changes; 0 where it changes none.
-#[tactic(auto, unfolding(crate::specs::Effects::count_place))]
-pub fn count_place(update: Update) -> usize
-    ensures { result ≡ count_place update }
-{
-    match update {
-        Update::Nothing => 0,
-        Update::Reach(_) => 0,
-        Update::Counted(index) => numbered_place(index, 64),
-        Update::Uncounted(index) => numbered_place(index, 64),
-        Update::Answered(_) => 0,
+    // The place of the count that it changes; 0 where it changes none.
+    #[tactic(auto, unfolding(crate::specs::Effects::count_place))]
+    pub fn count_place(self) -> usize
+        ensures { result ≡ count_place self }
+    {
+        match self {
+            Update::Counted(index) | Update::Uncounted(index) => numbered_place(index, 64),
+            _ => 0,
+        }
     }
-}
 
-// The count at that place after the update.
-#[tactic(auto, unfolding(crate::specs::Effects::count_after))]
-pub fn count_after(m: u32, update: Update, count: u32) -> u32
-    ensures { result ≡ count_after m update count }
-{
-    match update {
-        Update::Nothing => count,
-        Update::Reach(_) => count,
-        Update::Counted(_) => one_more(m, count),
-        Update::Uncounted(_) => one_less(count),
-        Update::Answered(_) => count,
+    // The count at that place after it.
+    #[tactic(auto, unfolding(crate::specs::Effects::count_after))]
+    pub fn count_after(self, m: u32, count: u32) -> u32
+        ensures { result ≡ count_after m self count }
+    {
+        match self {
+            Update::Counted(_) => one_more(m, count),
+            Update::Uncounted(_) => count.saturating_sub(1),
+            _ => count,
+        }
     }
-}
 
-// The last command, after the update, of the station whose command's change is underway.
-pub fn station_after(update: Update, station: Station) -> Station
-    ensures { result ≡ station_after update station }
-{
-    match update {
-        Update::Nothing => station,
-        Update::Reach(_) => station,
-        Update::Counted(_) => station,
-        Update::Uncounted(_) => station,
-        Update::Answered(command) => command.last,
+    // The last command, after it, of the station whose command's change is underway.
+    pub fn station_after(self, station: Station) -> Station
+        ensures { result ≡ station_after self station }
+    {
+        match self {
+            Update::Answered(command) => command.last,
+            _ => station,
+        }
     }
 }
 
@@ -112,9 +101,9 @@ pub fn underway(work: WriterWork) -> Effect
     ensures { paper_effect result ≡ going_on work }
 {
     Effect {
-        work: work,
+        work,
         update: Update::Nothing,
-        progress: Progress::Underway,
+        progress: None,
     }
 }
 
@@ -125,7 +114,7 @@ pub fn ended(update: Update, ending: Ending) -> Effect
 {
     Effect {
         work: WriterWork::Idle,
-        update: update,
-        progress: Progress::Ended(ending),
+        update,
+        progress: Some(ending),
     }
 }

@@ -8,10 +8,24 @@ use borrow.Author.Tests.{ltb-false}
 use lib.Dec.{ltb}
 use Rattle.conditions.specs.Conditions.{both, outside}
 use Rattle.refusal.specs.Judging.{refuse_if}
-use Rattle.refusal.proofs.Laws.{not_refused}
+use Rattle.refusal.specs.declared.Refusal.{Refusal}
+use Rattle.refusal.specs.Refusals.{number_of}
+use Rattle.refusal.proofs.Laws.{number_positive, not_refused}
 use Rattle.frame.specs.declared.Fields.{Fields}
 use Rattle.frame.specs.FieldMap.{has_bit}
 use Rattle.frame.specs.Frames.{kept, judged}
+
+-- a chain whose first test refuses
+pub first_refuses : (r : Refusal) (t : Bool) (n later : ℕ) → number_of r ≡ refuse_if t n 0 → number_of r ≡ refuse_if t n later
+unfolding refuse_if
+first_refuses r true n later e = e
+first_refuses r false n later e = absurd (omega (arith, number_positive r, e))
+
+-- one whose first test does not
+pub first_passes : (t : Bool) (n later : ℕ) → 1 ≤ n → 0 ≡ refuse_if t n 0 → refuse_if t n later ≡ later
+unfolding refuse_if
+first_passes true n later h e = absurd (omega arith)
+first_passes false n later h e = refl
 
 is_in_range : (has : Bool) (low x high : ℕ) → both has (outside low x high) ≡ false → has ≡ true → x ≤ high
 unfolding both outside

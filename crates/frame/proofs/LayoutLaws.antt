@@ -2,24 +2,26 @@
 -- and writing by the field map.
 use Prim.Native.Nat.{ℕ, zero, suc, ◌+◌, ◌≤◌}
 use mathlib.Core.Path.{◌≡◌, refl, sym, ap, ap₂, ◌∙◌}
-use mathlib.Core.Bool.{Bool, true, false, cond, not, ◌||◌}
+use mathlib.Core.Bool.{Bool, true, false, cond, not}
 use mathlib.Core.List.{List, [], ◌∷◌, ◌++◌, map, append-nil}
 use native.Mathlib.Nat.{zero-add}
 use native.Mathlib.Omega.{arith}
 use borrow.Author.Tests.{eqb-true, ne_eqb}
 use lib.Dec.{eqb}
-use lib.ListN.{length, get_or, set, drop, length-append}
+use Rattle.std.specs.Prelude.{Result, Ok, Err}
+use lib.ListN.{length, set, drop, length-append}
 use lib.Seq.{sets, sets-eq}
 use Rattle.conditions.specs.Conditions.{both, outside}
+use Rattle.refusal.specs.declared.Refusal.{Refusal}
+use Rattle.refusal.specs.declared.Refusal.TheVariants.{Map}
 use Rattle.refusal.specs.Judging.{refuse_if}
 use Rattle.frame.specs.declared.Kind.{Kind}
 use Rattle.frame.specs.declared.Kind.TheVariants.{Query, Command, Value, CommandAnswer, QueryRefused, CommandRefused}
 use Rattle.frame.specs.declared.Fields.{Fields}
 use Rattle.frame.specs.declared.layout.Layout.{Layout}
-use Rattle.frame.specs.declared.layout.MapByte.TheVariants.{Frame, NotAllowed}
-use Rattle.frame.specs.FieldMap.{width, has_bit, start, length_of, big_endian, bytes_of, map_of, kinds, is_map_of, allowed}
-use Rattle.frame.specs.Frames.{field_read, fields_in, judged, read_refusal, handed, read_frame, field_of, part, bytes_up_to, encode}
-use Rattle.frame.specs.Layouts.{place, laid, among, layout_of, present, places_of, number_at, fields_at, reading_by, put, put_frame}
+use Rattle.frame.specs.FieldMap.{width, has_bit, start, length_of, big_endian, bytes_of, map_of, kinds, is_map_of, allowed, kind_among, kind_of}
+use Rattle.frame.specs.Frames.{field_read, fields_in, judged, field_of, part, bytes_up_to, encode}
+use Rattle.frame.specs.Layouts.{place, laid, with_layout, layout_of, present, places_of, number_at, fields_at, put, put_fields}
 use Rattle.frame.proofs.BigEndian.{length_bytes, sets_append}
 
 -- "Their frames have 5, 10, 9, 13, 6 and 10 bytes"
@@ -27,35 +29,66 @@ pub lengths : map (λ (k : Kind). length_of (map_of k)) kinds ≡ 5 ∷ 10 ∷ 9
 unfolding start has_bit
 lengths = refl
 
--- the kind that a map byte chose
-pub record Chosen (map : ℕ) (l : Layout) : Type 0 where
-  pub kind : Kind
-  pub laid_out : l ≡ laid kind
-  pub byte : map ≡ map_of kind
-
-chosen_among : (map : ℕ) (l : Layout) (ks : List Kind) → among map ks ≡ Frame l → Chosen map l
-chosen_among map l [] e = let n : ◌≡◌ {A = ℕ} 0 1 = cc in absurd (omega arith)
-chosen_among map l (k ∷ ks) e = go (eqb map (map_of k)) refl e (chosen_among map l ks)
+byte_among : (map : ℕ) (k : Kind) (ks : List Kind) → kind_among map ks ≡ Ok k → map ≡ map_of k
+byte_among map k [] e = cc
+byte_among map k (l ∷ ks) e = go (eqb map (map_of l)) refl e (byte_among map k ks)
   where
-    go : (b : Bool) → eqb map (map_of k) ≡ b → cond b (Frame (laid k)) (among map ks) ≡ Frame l → (among map ks ≡ Frame l → Chosen map l) → Chosen map l
-    go true t e later = record { kind = k; laid_out = cc; byte = eqb-true map (map_of k) t }
+    go : (b : Bool) → eqb map (map_of l) ≡ b → cond b (Ok l) (kind_among map ks) ≡ Ok k → (kind_among map ks ≡ Ok k → map ≡ map_of k) → map ≡ map_of k
+    go true t e later = let same : l ≡ k = cc in eqb-true map (map_of l) t ∙ ap map_of same
     go false t e later = later e
 
-pub chosen : (map : ℕ) (l : Layout) → layout_of map ≡ Frame l → Chosen map l
-unfolding layout_of
-chosen map l e = chosen_among map l kinds e
+-- the kind that was found has the map byte
+pub kind_byte : (map : ℕ) (k : Kind) → kind_of map ≡ Ok k → map ≡ map_of k
+unfolding kind_of
+kind_byte map k e = byte_among map k kinds e
 
-refused_among : (map : ℕ) (ks : List Kind) → among map ks ≡ NotAllowed → is_map_of map ks ≡ false
-refused_among map [] e = refl
-refused_among map (k ∷ ks) e = go (eqb map (map_of k)) e (refused_among map ks)
+-- a map byte is no kind's
+pub record Unknown (map : ℕ) (r : Refusal) (ks : List Kind) : Type 0 where
+  pub refusal : r ≡ Map
+  pub none : is_map_of map ks ≡ false
+
+unknown_among : (map : ℕ) (r : Refusal) (ks : List Kind) → kind_among map ks ≡ Err r → Unknown map r ks
+unknown_among map r [] e = record { refusal = cc; none = refl }
+unknown_among map r (k ∷ ks) e = go (eqb map (map_of k)) refl e (unknown_among map r ks)
   where
-    go : (b : Bool) → cond b (Frame (laid k)) (among map ks) ≡ NotAllowed → (among map ks ≡ NotAllowed → is_map_of map ks ≡ false) → (b || is_map_of map ks) ≡ false
-    go true e later = let n : ◌≡◌ {A = ℕ} 0 1 = cc in absurd (omega arith)
-    go false e later = later e
+    go : (b : Bool) → eqb map (map_of k) ≡ b → cond b (Ok k) (kind_among map ks) ≡ Err r → (kind_among map ks ≡ Err r → Unknown map r ks) → Unknown map r (k ∷ ks)
+    go true t e later = cc
+    go false t e later = let u = later e in record { refusal = u.refusal; none = rw t u.none }
 
-pub not_allowed : (map : ℕ) → layout_of map ≡ NotAllowed → allowed map ≡ false
-unfolding layout_of allowed
-not_allowed map e = refused_among map kinds e
+pub not_allowed : (map : ℕ) (r : Refusal) → kind_of map ≡ Err r → (r ≡ Map) × (allowed map ≡ false)
+unfolding kind_of allowed
+not_allowed map r e = let u = unknown_among map r kinds e in (u.refusal, u.none)
+
+kind_in : Kind → Result (Kind × Layout) Refusal → Kind
+kind_in k (Ok found) = found.0
+kind_in k (Err r) = k
+
+layout_in : Layout → Result (Kind × Layout) Refusal → Layout
+layout_in l (Ok found) = found.1
+layout_in l (Err r) = l
+
+-- the kind and the layout that the map byte chose
+pub record Chosen (map : ℕ) (k : Kind) (l : Layout) : Type 0 where
+  pub laid_out : l ≡ laid k
+  pub byte : map ≡ map_of k
+
+pub chosen : (byte : ℕ) (k : Kind) (l : Layout) → layout_of byte ≡ Ok (k, l) → Chosen byte k l
+unfolding layout_of layout_in laid kind_in
+chosen byte k l e = go (kind_of byte) refl e
+  where
+    go : (found : Result Kind Refusal) → kind_of byte ≡ found → with_layout found ≡ Ok (k, l) → Chosen byte k l
+    go (Ok kind) f w =
+        let same = ap (kind_in k) w in
+        record { laid_out = sym (ap (layout_in l) w) ∙ ap laid same; byte = kind_byte byte k (f ∙ ap Ok same) }
+    go (Err r) f w = cc
+
+pub none_chosen : (map : ℕ) (r : Refusal) → layout_of map ≡ Err r → (r ≡ Map) × (allowed map ≡ false)
+unfolding layout_of
+none_chosen map r e = go (kind_of map) refl e
+  where
+    go : (found : Result Kind Refusal) → kind_of map ≡ found → with_layout found ≡ Err r → (r ≡ Map) × (allowed map ≡ false)
+    go (Ok kind) f w = cc
+    go (Err other) f w = let same : other ≡ r = cc in not_allowed map r (f ∙ ap Err same)
 
 pub kind_allowed : (k : Kind) → allowed (map_of k) ≡ true
 unfolding allowed
@@ -110,16 +143,9 @@ judged_laid k f = λ j.
     (refuse_if (both (present_place (map_of k) 3 j) (outside 0 f.action 2)) 13
     (refuse_if (both (present_place (map_of k) 5 j) (outside 1 f.refusal 14)) 13 0))))
 
-pub length_laid : (l : Layout) (k : Kind) → l ≡ laid k → l.length ≡ length_of (map_of k)
+pub length_laid : (k : Kind) → (laid k).length ≡ length_of (map_of k)
 unfolding laid
-length_laid l k e = ap (λ (x : Layout). x.length) e
-
--- the reader, by the layout that the map byte chose
-pub reading_laid : (s : List ℕ) (k : Kind) → eqb (length s) 0 ≡ false → get_or s 0 0 ≡ map_of k → read_frame s ≡ reading_by s (laid k)
-unfolding read_frame read_refusal refuse_if reading_by laid
-reading_laid s k full e =
-    rw (full, e, kind_allowed k)
-    (λ j. handed (refuse_if (not (eqb (length s) (length_of (map_of k)))) 8 (sym (judged_laid k (sym (fields_laid s k) j)) j)) (map_of k) (sym (fields_laid s k) j))
+length_laid k = refl
 
 -- the bytes in front of a field end where the field begins
 pub length_up_to : (map : ℕ) (f : Fields) (i : ℕ) → length (bytes_up_to map f i) ≡ start map i
@@ -151,8 +177,8 @@ unfolding bytes_up_to
 put_map map f out = refl
 
 -- the writer, by the layout that the map byte chose
-pub put_laid : (k : Kind) (f : Fields) (out : List ℕ) → length_of (map_of k) ≤ length out → put_frame (laid k) f out ≡ encode (map_of k) f ++ drop (length_of (map_of k)) out
-unfolding put_frame laid
+pub put_laid : (k : Kind) (f : Fields) (out : List ℕ) → length_of (map_of k) ≤ length out → put_fields (laid k) f (set out 0 (map_of k)) ≡ encode (map_of k) f ++ drop (length_of (map_of k)) out
+unfolding put_fields laid
 put_laid k f out room =
     let m = map_of k in
     let n : 0 + length (encode m f) ≡ length_of m = zero-add (length (encode m f)) ∙ length_up_to m f 6 in

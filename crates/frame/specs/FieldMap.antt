@@ -1,5 +1,7 @@
 -- Document 01, "Frames": the map byte and the fields behind it. Fields are named by their bits, 0 to 5.
-use Rattle.std.specs.Prelude.{ℕ, zero, suc, ◌+◌, ◌*◌, ◌/◌, ◌%◌, ◌^◌, Bool, false, cond, ◌||◌, List, [], ◌∷◌, ◌++◌, eqb, get_or}
+use Rattle.std.specs.Prelude.{ℕ, zero, suc, ◌+◌, ◌*◌, ◌/◌, ◌%◌, ◌^◌, Bool, false, cond, ◌||◌, List, [], ◌∷◌, ◌++◌, Result, Ok, Err, eqb, get_or}
+use Rattle.refusal.specs.declared.Refusal.{Refusal}
+use Rattle.refusal.specs.declared.Refusal.TheVariants.{Map}
 use Rattle.frame.specs.declared.Kind.{Kind}
 use Rattle.frame.specs.declared.Kind.TheVariants.{Query, Command, Value, CommandAnswer, QueryRefused, CommandRefused}
 
@@ -55,3 +57,12 @@ is_map_of map (kind ∷ others) = eqb map (map_of kind) || is_map_of map others
 -- the map byte of one of the six
 unfoldable pub allowed : ℕ → Bool
 allowed map = is_map_of map kinds
+
+-- the one of some kinds whose map byte this is, else "9"
+abbrev pub kind_among : ℕ → List Kind → Result Kind Refusal
+kind_among map [] = Err Map
+kind_among map (kind ∷ others) = cond (eqb map (map_of kind)) (Ok kind) (kind_among map others)
+
+-- the kind of a map byte
+unfoldable pub kind_of : ℕ → Result Kind Refusal
+kind_of map = kind_among map kinds

@@ -7,7 +7,7 @@ ghost use Rattle.frame.specs.Layouts.{number_at, put};
 fn byte_at(bytes: &[u8], at: usize) -> u8
     ensures { result ≡ get_or bytes.now at 0 }
 {
-    if at < bytes.len() { bytes[at] } else { 0 }
+    bytes.get(at).copied().unwrap_or(0)
 }
 
 // The number of `width` bytes at a place.
@@ -21,7 +21,7 @@ pub(crate) fn number_at(bytes: &[u8], at: u32, width: u32) -> u32
     }
     let mut number: u32 = 0;
     for i in 0..width {
-        number = number * 256 + byte_at(bytes, at as usize + i as usize) as u32;
+        number = number * 256 + u32::from(byte_at(bytes, at as usize + i as usize));
     }
     number
 }
@@ -43,11 +43,9 @@ pub(crate) fn put_number(out: &mut [u8], at: u32, width: u32, number: u32)
     if at == 0 {
         return;
     }
-    let mut left = width;
     let mut rest = number;
-    while 0 < left {
-        left -= 1;
-        put_byte(out, at as usize + left as usize, (rest % 256) as u8);
+    for i in (0..width).rev() {
+        put_byte(out, at as usize + i as usize, (rest % 256) as u8);
         rest /= 256;
     }
 }

@@ -4,7 +4,7 @@ ghost use Rattle.std.specs.Prelude.{◌≡◌};
 ghost use Rattle.frame.specs.Answers.{fields_of, reading, writing};
 ghost use Rattle.frame.specs.Frames.{read_frame, write_frame};
 
-use crate::{Fields, WriteAnswer, read, write};
+use crate::{Fields, Reading, read, write};
 
 #[unsafe(no_mangle)]
 pub extern "C" fn jizkorma_frame_read(
@@ -19,16 +19,15 @@ pub extern "C" fn jizkorma_frame_read(
 ) -> u32
     ensures { reading result map.new station.new number.new point.new action.new value.new refusal.new ≡ read_frame bytes.now }
 {
-    let given = read(bytes).numbers();
-    let fields = given.fields;
-    *map = given.map;
-    *station = fields.station;
-    *number = fields.number;
-    *point = fields.point;
-    *action = fields.action;
-    *value = fields.value;
-    *refusal = fields.refusal;
-    given.refused
+    let reading = Reading::from(read(bytes));
+    *map = reading.map;
+    *station = reading.fields.station;
+    *number = reading.fields.number;
+    *point = reading.fields.point;
+    *action = reading.fields.action;
+    *value = reading.fields.value;
+    *refusal = reading.fields.refusal;
+    reading.refused
 }
 
 #[unsafe(no_mangle)]
@@ -46,21 +45,21 @@ pub extern "C" fn jizkorma_frame_write(
     ensures { writing result written.new bytes.new ≡ write_frame map (fields_of station number point action value refusal) bytes.old }
 {
     let fields = Fields {
-        station: station,
-        number: number,
-        point: point,
-        action: action,
-        value: value,
-        refusal: refusal,
+        station,
+        number,
+        point,
+        action,
+        value,
+        refusal,
     };
     match write(bytes, map, fields) {
-        WriteAnswer::Written(n) => {
-            *written = n;
+        Ok(length) => {
+            *written = length;
             0
         }
-        WriteAnswer::Refused(r) => {
+        Err(refusal) => {
             *written = 0;
-            r.number()
+            refusal.number()
         }
     }
 }

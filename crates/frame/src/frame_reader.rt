@@ -2,42 +2,28 @@
 ghost use Rattle.std.specs.Prelude.{◌≡◌};
 ghost use Rattle.frame.specs.Answers.{paper_read};
 ghost use Rattle.frame.specs.Frames.{read_frame};
-ghost use Rattle.frame.specs.Layouts.{fields_at, reading_by};
+ghost use Rattle.frame.specs.Layouts.{fields_at};
 
 use crate::big_endian::number_at;
 use crate::judge::judge;
-use crate::layout::{Layout, MapByte, layout_of};
-use crate::{Fields, ReadAnswer};
-use refusal::{Judged, Refusal};
+use crate::layout::{Layout, layout_of};
+use crate::{Fields, Frame};
+use refusal::Refusal;
 
 // The frame that a byte string is, or why it is none: 8 if empty, 9, 8, then its fields in bit order.
-#[tactic(auto, unfolding(crate::specs::Frames::handed, crate::specs::Frames::read_frame, crate::specs::Frames::read_refusal, refusal::specs::Judging::refuse_if))]
-pub fn read(bytes: &[u8]) -> ReadAnswer
+pub fn read(bytes: &[u8]) -> Result<Frame, Refusal>
     ensures { paper_read result ≡ read_frame bytes.now }
 {
-    if bytes.len() == 0 {
-        return ReadAnswer::Refused(Refusal::Length);
+    let Some(&map) = bytes.first() else {
+        return Err(Refusal::Length);
+    };
+    let (kind, layout) = layout_of(u32::from(map))?;
+    if bytes.len() != layout.length as usize {
+        return Err(Refusal::Length);
     }
-    let map = bytes[0];
-    match layout_of(map as u32) {
-        MapByte::Frame(l) => read_by(bytes, l),
-        MapByte::NotAllowed => ReadAnswer::Refused(Refusal::Map),
-    }
-}
-
-#[tactic(auto, unfolding(crate::specs::Frames::handed, crate::specs::Layouts::reading_by, refusal::specs::Judging::refuse_if))]
-fn read_by(bytes: &[u8], l: Layout) -> ReadAnswer
-    ensures { paper_read result ≡ reading_by bytes.now l }
-{
-    if bytes.len() != l.length as usize {
-        return ReadAnswer::Refused(Refusal::Length);
-    }
-    let kind = l.kind;
-    let f = fields_at(bytes, l);
-    match judge(l, f) {
-        Judged::Allowed => ReadAnswer::Frame(kind, f),
-        Judged::Refused(r) => ReadAnswer::Refused(r),
-    }
+    let fields = fields_at(bytes, layout);
+    judge(layout, fields)?;
+    Ok(Frame { kind, fields })
 }
 
 #[tactic(auto, unfolding(crate::specs::Layouts::fields_at))]

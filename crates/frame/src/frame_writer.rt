@@ -2,37 +2,33 @@
 ghost use Rattle.std.specs.Prelude.{◌≡◌};
 ghost use Rattle.frame.specs.Answers.{paper_write};
 ghost use Rattle.frame.specs.Frames.{write_frame};
-ghost use Rattle.frame.specs.Layouts.{put_frame};
+ghost use Rattle.frame.specs.Layouts.{put_fields};
 
+use crate::Fields;
 use crate::big_endian::{put_byte, put_number};
 use crate::judge::judge;
-use crate::layout::{Layout, MapByte, layout_of};
-use crate::{Fields, WriteAnswer};
-use refusal::{Judged, Refusal};
+use crate::layout::{Layout, layout_of};
+use refusal::Refusal;
 
-// Writes a frame to the start of a buffer, or says why not: 9, the fields in bit order, 14.
-pub fn write(out: &mut [u8], map: u32, f: Fields) -> WriteAnswer
+// Writes a frame to the start of a buffer, and gives its length; or says why not: 9, the fields in
+// bit order, 14.
+pub fn write(out: &mut [u8], map: u32, f: Fields) -> Result<u32, Refusal>
     ensures { paper_write result out.new ≡ write_frame map f out.old }
 {
-    let MapByte::Frame(l) = layout_of(map) else {
-        return WriteAnswer::Refused(Refusal::Map);
-    };
-    if let Judged::Refused(r) = judge(l, f) {
-        return WriteAnswer::Refused(r);
+    let (kind, layout) = layout_of(map)?;
+    judge(layout, f)?;
+    if out.len() < layout.length as usize {
+        return Err(Refusal::Short);
     }
-    if out.len() < l.length as usize {
-        return WriteAnswer::Refused(Refusal::Short);
-    }
-    put_frame(out, l, f);
-    WriteAnswer::Written(l.length)
+    put_byte(out, 0, kind.map());
+    put_fields(out, layout, f);
+    Ok(layout.length)
 }
 
-#[tactic(auto, unfolding(crate::specs::Layouts::put, crate::specs::Layouts::put_frame))]
-fn put_frame(out: &mut [u8], l: Layout, f: Fields)
-    ensures { out.new ≡ put_frame l f out.old }
+#[tactic(auto, unfolding(crate::specs::Layouts::put, crate::specs::Layouts::put_fields))]
+fn put_fields(out: &mut [u8], l: Layout, f: Fields)
+    ensures { out.new ≡ put_fields l f out.old }
 {
-    let kind = l.kind;
-    put_byte(out, 0, kind.map());
     put_number(out, l.station, 1, f.station);
     put_number(out, l.number, 3, f.number);
     put_number(out, l.point, 4, f.point);

@@ -3,11 +3,11 @@ ghost use Rattle.std.specs.Prelude.{◌≡◌};
 ghost use Rattle.frame.specs.Layouts.{layout_of};
 
 use crate::Kind;
+use refusal::Refusal;
 
-// The places of a frame's fields, 0 where the map lacks one.
-#[derive(Clone, Copy)]
+// A frame's length, and the places of its fields, 0 where the kind lacks one.
+#[derive(Clone, Copy, Default)]
 pub(crate) struct Layout {
-    pub kind: Kind,
     pub length: u32,
     pub station: u32,
     pub number: u32,
@@ -17,77 +17,72 @@ pub(crate) struct Layout {
     pub refusal: u32,
 }
 
-#[derive(Clone, Copy)]
-pub(crate) enum MapByte {
-    Frame(Layout),
-    NotAllowed,
-}
-
-#[tactic(auto, unfolding(crate::specs::FieldMap::has_bit, crate::specs::Layouts::laid, crate::specs::Layouts::layout_of, crate::specs::FieldMap::start))]
-pub(crate) fn layout_of(map: u32) -> MapByte
+// The kind of frame that a map byte chooses, with its layout; every other value is refused.
+#[tactic(auto, unfolding(crate::specs::FieldMap::has_bit, crate::specs::FieldMap::kind_of, crate::specs::FieldMap::start, crate::specs::Layouts::laid, crate::specs::Layouts::layout_of))]
+pub(crate) fn layout_of(map: u32) -> Result<(Kind, Layout), Refusal>
     ensures { result ≡ layout_of map }
 {
+    let lacking = Layout::default();
     match map {
-        0x04 => MapByte::Frame(Layout {
-            kind: Kind::Query,
-            length: 5,
-            station: 0,
-            number: 0,
-            point: 1,
-            action: 0,
-            value: 0,
-            refusal: 0,
-        }),
-        0x0F => MapByte::Frame(Layout {
-            kind: Kind::Command,
-            length: 10,
-            station: 1,
-            number: 2,
-            point: 5,
-            action: 9,
-            value: 0,
-            refusal: 0,
-        }),
-        0x14 => MapByte::Frame(Layout {
-            kind: Kind::Value,
-            length: 9,
-            station: 0,
-            number: 0,
-            point: 1,
-            action: 0,
-            value: 5,
-            refusal: 0,
-        }),
-        0x17 => MapByte::Frame(Layout {
-            kind: Kind::CommandAnswer,
-            length: 13,
-            station: 1,
-            number: 2,
-            point: 5,
-            action: 0,
-            value: 9,
-            refusal: 0,
-        }),
-        0x24 => MapByte::Frame(Layout {
-            kind: Kind::QueryRefused,
-            length: 6,
-            station: 0,
-            number: 0,
-            point: 1,
-            action: 0,
-            value: 0,
-            refusal: 5,
-        }),
-        0x27 => MapByte::Frame(Layout {
-            kind: Kind::CommandRefused,
-            length: 10,
-            station: 1,
-            number: 2,
-            point: 5,
-            action: 0,
-            value: 0,
-            refusal: 9,
-        }),
-        _ => MapByte::NotAllowed,
+        0x04 => Ok((
+            Kind::Query,
+            Layout {
+                length: 5,
+                point: 1,
+                ..lacking
+            },
+        )),
+        0x0F => Ok((
+            Kind::Command,
+            Layout {
+                length: 10,
+                station: 1,
+                number: 2,
+                point: 5,
+                action: 9,
+                ..lacking
+            },
+        )),
+        0x14 => Ok((
+            Kind::Value,
+            Layout {
+                length: 9,
+                point: 1,
+                value: 5,
+                ..lacking
+            },
+        )),
+        0x17 => Ok((
+            Kind::CommandAnswer,
+            Layout {
+                length: 13,
+                station: 1,
+                number: 2,
+                point: 5,
+                value: 9,
+                ..lacking
+            },
+        )),
+        0x24 => Ok((
+            Kind::QueryRefused,
+            Layout {
+                length: 6,
+                point: 1,
+                refusal: 5,
+                ..lacking
+            },
+        )),
+        0x27 => Ok((
+            Kind::CommandRefused,
+            Layout {
+                length: 10,
+                station: 1,
+                number: 2,
+                point: 5,
+                refusal: 9,
+                ..lacking
+            },
+        )),
+        _ => Err(Refusal::Map),
     }
 }

@@ -17,15 +17,15 @@ pub use frame_reader::read;
 pub use frame_writer::write;
 use refusal::Refusal;
 
-// The six kinds of frame.
+// The six kinds of frame; the number of each is its map byte.
 #[derive(Clone, Copy)]
 pub enum Kind {
-    Query,
-    Command,
-    Value,
-    CommandAnswer,
-    QueryRefused,
-    CommandRefused,
+    Query = 0x04,
+    Command = 0x0F,
+    Value = 0x14,
+    CommandAnswer = 0x17,
+    QueryRefused = 0x24,
+    CommandRefused = 0x27,
 }
 
 impl Kind {
@@ -33,19 +33,12 @@ impl Kind {
     pub fn map(self) -> u8
         ensures { result ≡ map_of self }
     {
-        match self {
-            Kind::Query => 0x04,
-            Kind::Command => 0x0F,
-            Kind::Value => 0x14,
-            Kind::CommandAnswer => 0x17,
-            Kind::QueryRefused => 0x24,
-            Kind::CommandRefused => 0x27,
-        }
+        self as u8
     }
 }
 
 // A frame's fields. One that the map lacks reads as 0 and is ignored when writing.
-#[derive(Clone, Copy)]
+#[derive(Clone, Copy, Default)]
 pub struct Fields {
     pub station: u32,
     pub number: u32,
@@ -55,53 +48,36 @@ pub struct Fields {
     pub refusal: u32,
 }
 
-// What reading a byte string found.
+// What a byte string is read as.
 #[derive(Clone, Copy)]
-pub enum ReadAnswer {
-    Frame(Kind, Fields),
-    Refused(Refusal),
-}
-
-impl ReadAnswer {
-    // The answer in document 01's numbers.
-    pub fn numbers(self) -> Reading
-        ensures { result ≡ paper_read self }
-    {
-        match self {
-            ReadAnswer::Frame(kind, fields) => Reading {
-                refused: 0,
-                map: kind.map() as u32,
-                fields: fields,
-            },
-            ReadAnswer::Refused(r) => Reading {
-                refused: r.number(),
-                map: 0,
-                fields: Fields {
-                    station: 0,
-                    number: 0,
-                    point: 0,
-                    action: 0,
-                    value: 0,
-                    refusal: 0,
-                },
-            },
-        }
-    }
+pub struct Frame {
+    pub kind: Kind,
+    pub fields: Fields,
 }
 
 // What a reader hands back, in document 01's numbers: the refusal or 0, the map and the fields. With
 // a refusal all but the first are 0.
-#[derive(Clone, Copy)]
+#[derive(Clone, Copy, Default)]
 pub struct Reading {
     pub refused: u32,
     pub map: u32,
     pub fields: Fields,
 }
 
-// What became of a frame to write.
-#[derive(Clone, Copy)]
-pub enum WriteAnswer {
-    // the number of bytes written
-    Written(u32),
-    Refused(Refusal),
+impl From<Result<Frame, Refusal>> for Reading {
+    ghost from_gives = { λ answer reading. reading ≡ paper_read answer };
+
+    fn from(answer: Result<Frame, Refusal>) -> Self {
+        match answer {
+            Ok(frame) => Reading {
+                refused: 0,
+                map: u32::from(frame.kind.map()),
+                fields: frame.fields,
+            },
+            Err(refusal) => Reading {
+                refused: refusal.number(),
+                ..Reading::default()
+            },
+        }
+    }
 }

@@ -1,17 +1,17 @@
 -- The lemmas that carry the computed test of the table to each of its entries, and so to each hash function.
 use Prim.Native.Nat.{ℕ, zero, suc, ◌+◌, ◌-◌, ◌*◌, ◌≤◌, ◌<◌}
 use mathlib.Core.Path.{◌≡◌, refl, sym, ap, ◌∙◌}
-use mathlib.Core.Bool.{Bool, and-eq-true_iff, true, false}
+use mathlib.Core.Bool.{and-eq-true_iff, true}
 use mathlib.Core.List.{List, [], ◌∷◌}
 use native.Mathlib.Nat.{add-zero, zero-add, add-suc, suc-add, le_of_suc-le-suc, not-suc-le-zero}
 use native.Mathlib.Numerals.{add-one}
 use native.Mathlib.Omega.{arith}
-use borrow.Author.Tests.{eqb-true, eqb-false}
+use borrow.Author.Tests.{eqb-true}
 use lib.Dec.{eqb}
-use lib.ListN.{length, get_or, set}
-use lib.Seq.{get_or-set_same, get_or-set_other}
-use Rattle.hash.specs.Position.{next_of, z}
+use lib.ListN.{length, get_or}
+use Rattle.hash.specs.Position.{next_of, z, carter_wegman, position_of}
 use Rattle.hash.specs.Table.{follows, is_table}
+use Rattle.hash.proofs.Laws.{position_inside}
 
 module _ (x before : ℕ) (xs : List ℕ) (t : follows before (x ∷ xs) ≡ true) where
   head : x ≡ next_of before
@@ -38,19 +38,15 @@ entry xs t k h =
     from xs 0 1 refl ((and-eq-true_iff (eqb (length xs) 128) (follows 1 xs)).0 t).1 k (omega (arith, table_length xs t))
     ∙ ap z (ap suc (zero-add k) ∙ sym (add-one k))
 
--- a list that holds entries up to i, with the next one stored at i
-pub one_entry_more : (xs : List ℕ) (i x : ℕ) → i < length xs → x ≡ z (i + 1) → ((k : ℕ) → k < i → get_or xs k 0 ≡ z (k + 1)) → (k : ℕ) → k < i + 1 → get_or (set xs i x) k 0 ≡ z (k + 1)
-one_entry_more xs i x inside e entries k h = go (eqb k i) refl
-  where
-    go : (b : Bool) → eqb k i ≡ b → get_or (set xs i x) k 0 ≡ z (k + 1)
-    go true same =
-        let at = eqb-true k i same in
-        ap (λ (n : ℕ). get_or (set xs i x) n 0) at ∙ get_or-set_same xs i x 0 inside ∙ e ∙ ap (λ (n : ℕ). z (n + 1)) (sym at)
-    go false other = get_or-set_other xs i k x 0 (eqb-false k i other) ∙ entries k (omega (arith, h, eqb-false k i other))
-
--- the two entries of function i are z(2i - 1) and z(2i), in the table and in what begins it
+-- the two entries of function i are z(2i - 1) and z(2i), in any list that begins so
 pub of_function : (xs : List ℕ) (n : ℕ) → ((k : ℕ) → k < n → get_or xs k 0 ≡ z (k + 1)) → (i : ℕ) → 1 ≤ i → 2 * i ≤ n → (get_or xs (2 * i - 2) 0 ≡ z (2 * i - 1)) × (get_or xs (2 * i - 2 + 1) 0 ≡ z (2 * i))
 of_function xs n entries i h g =
     let e : 2 * i - 2 + 1 ≡ 2 * i - 1 = omega arith in
     let f : 2 * i - 2 + 1 + 1 ≡ 2 * i = omega arith in
     (entries (2 * i - 2) (omega arith) ∙ ap z e, entries (2 * i - 2 + 1) (omega arith) ∙ ap z f)
+
+-- and in the table they give the position
+pub position_mixed : (xs : List ℕ) → is_table xs ≡ true → (m q i : ℕ) → 1 ≤ m → 1 ≤ i → i ≤ 64 → carter_wegman (get_or xs (2 * i - 2) 0) (get_or xs (2 * i - 2 + 1) 0) q m ≡ position_of m q i
+position_mixed xs t m q i some low high =
+    let two = of_function xs 128 (entry xs t) i low (omega arith) in
+    rw (two.0, two.1, position_inside m q i some low high)

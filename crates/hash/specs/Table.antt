@@ -1,5 +1,5 @@
 -- Document 01: "z(1) to z(128) stand in a constant table, and its rule is wanted for all of it".
-use Rattle.std.specs.Prelude.{ℕ, ◌+◌, ◌<◌, Bool, true, cond, ◌&&◌, List, [], ◌∷◌, ◌≡◌, eqb, leb, length, get_or}
+use Rattle.std.specs.Prelude.{ℕ, Bool, true, cond, ◌&&◌, List, [], ◌∷◌, eqb, leb, length}
 use Rattle.hash.specs.Position.{next_of, z}
 
 -- each entry is the generator's next value after the one before it
@@ -14,7 +14,3 @@ is_table xs = eqb (length xs) 128 && follows 1 xs
 -- the table's z(j): 0 where it has none
 unfoldable pub coefficient_of : ℕ → ℕ
 coefficient_of j = cond (leb 1 j && leb j 128) (z j) 0
-
--- its first sixteen entries, z(1) to z(16)
-abbrev pub Begins : List ℕ → Type 0
-Begins entries = (i : ℕ) → i < 16 → get_or entries i 0 ≡ z (i + 1)

@@ -3,10 +3,10 @@
 
 ghost use Rattle.std.specs.Prelude.{◌≡◌, ◌<◌, true};
 ghost use Rattle.hash.specs.Position.{next_of, z, carter_wegman, position_of};
-ghost use Rattle.hash.specs.Table.{is_table, Begins, coefficient_of};
+ghost use Rattle.hash.specs.Table.{is_table, coefficient_of};
 
 // z(1) to z(128), two for each hash function.
-const COEFFICIENTS: [u32; 128] = [
+static COEFFICIENTS: [u32; 128] = [
     16807, 282475249, 1622650073, 984943658, 1144108930, 470211272, 101027544, 1457850878,
     1458777923, 2007237709, 823564440, 1115438165, 1784484492, 74243042, 114807987, 1137522503,
     1441282327, 16531729, 823378840, 143542612, 896544303, 1474833169, 1264817709, 1998097157,
@@ -30,7 +30,7 @@ const COEFFICIENTS: [u32; 128] = [
 pub fn generated(n: u32) -> u32
     ensures { result ≡ z n }
 {
-    let mut value: u32 = 1;
+    let mut value = 1;
     for _ in 0..n {
         value = next(value);
     }
@@ -41,62 +41,38 @@ pub fn generated(n: u32) -> u32
 pub fn next(value: u32) -> u32
     ensures { result ≡ next_of value }
 {
-    ((16807 * value as u64) % 2147483647) as u32
+    (16807 * u64::from(value) % 2147483647) as u32
 }
 
 // The table, checked whole by one test.
-fn coefficients() -> [u32; 128]
-    ensures { is_table result ≡ true }
+fn coefficients() -> &'static [u32; 128]
+    ensures { is_table result.now ≡ true }
 {
-    COEFFICIENTS
-}
-
-// z(1) to z(16), for the first eight functions. A constant table is copied to the stack where it is read;
-// few positions need more of it than these 64 bytes.
-fn first_coefficients() -> [u32; 16]
-    ensures { Begins result }
-{
-    let table = coefficients();
-    let mut first = [0u32; 16];
-    for i in 0..16 {
-        first[i] = table[i];
-    }
-    first
+    &COEFFICIENTS
 }
 
 // z(j) from the table, 0 outside 1 to 128.
+#[tactic(auto, using(crate::proofs::Table::entry), unfolding(crate::specs::Table::coefficient_of))]
 pub fn coefficient(j: u32) -> u32
     ensures { result ≡ coefficient_of j }
 {
-    if j == 0 {
-        return 0;
+    match j {
+        1..=128 => coefficients()[(j - 1) as usize],
+        _ => 0,
     }
-    if 128 < j {
-        return 0;
-    }
-    coefficients()[(j - 1) as usize]
 }
 
 // Position `index` of a point in a table of `slots`: below `slots`, or 0 where there is no such
 // function or no slot.
+#[tactic(auto, unfolding(crate::specs::Position::position_of))]
 pub fn position(slots: u32, point: u32, index: u32) -> u32
     ensures { result ≡ position_of slots point index }
 {
-    if slots == 0 {
+    if slots == 0 || index == 0 || 64 < index {
         return 0;
-    }
-    if index == 0 {
-        return 0;
-    }
-    if 64 < index {
-        return 0;
-    }
-    let at = (2 * index - 2) as usize;
-    if index <= 8 {
-        let first = first_coefficients();
-        return mixed(first[at], first[at + 1], point, slots);
     }
     let table = coefficients();
+    let at = (2 * index - 2) as usize;
     mixed(table[at], table[at + 1], point, slots)
 }
 
@@ -105,6 +81,6 @@ fn mixed(a: u32, b: u32, point: u32, slots: u32) -> u32
     requires { 0 < slots }
     ensures { result ≡ carter_wegman a b point slots }
 {
-    let sum = a as u64 * point as u64 + b as u64;
-    (sum % 2147483647 % slots as u64) as u32
+    let sum = u64::from(a) * u64::from(point) + u64::from(b);
+    (sum % 2147483647 % u64::from(slots)) as u32
 }

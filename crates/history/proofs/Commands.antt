@@ -1,5 +1,6 @@
 -- What is true of the stations and of the commands noted, between two calls: each station holds the last of its commands that ended, with the answer that its change
 -- gave; no command that acted or ended has a number above its station's last; the command underway has the number after it. So no station's number acts or ends twice.
+use Rattle.std.specs.Prelude.{Option}
 use Prim.Native.Nat.{ℕ, ◌+◌, ◌≤◌, ◌<◌}
 use mathlib.Core.Bool.{Bool, true, false, cond}
 use mathlib.Core.Path.{◌≡◌, refl, sym, ap, ◌∙◌}
@@ -12,7 +13,6 @@ use lib.ListN.{length}
 use Rattle.conditions.specs.Conditions.{both}
 use Rattle.record.specs.declared.Station.{Station}
 use Rattle.record.specs.declared.Command.{Command}
-use Rattle.record.specs.declared.CommandAnswer.{CommandAnswer}
 use Rattle.record.specs.declared.Alteration.{Alteration}
 use Rattle.record.specs.declared.Alteration.TheVariants.{Given as Alteration-as-Given, Commanded}
 use Rattle.record.specs.declared.WriterWork.{WriterWork}
@@ -150,7 +150,7 @@ once_more stations sent l each above once station number = go (eqb sent.station 
     go false e b f = omega (arith, once station number)
 
 -- the step that ends a command's change records it
-module _ (stations : List Station) (sent : Sent) (acts : List Sent) (ended : List Given) (ok : CommandsOK stations (sent ∷ []) acts ended) (stored : CommandAnswer) (answer : Ending) (same : stored_answer stored ≡ answer) where
+module _ (stations : List Station) (sent : Sent) (acts : List Sent) (ended : List Given) (ok : CommandsOK stations (sent ∷ []) acts ended) (stored : Option ℕ) (answer : Ending) (same : stored_answer stored ≡ answer) where
   abbrev new : Station
   new = record { number = sent.number; point = sent.point; action = sent.action; answer = stored }
 

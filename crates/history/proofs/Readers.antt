@@ -1,6 +1,7 @@
 -- What is true of a reader between two calls, by its work and what is noted of it: a lookup knows of its point's row, or the row was absent at one of its moments;
 -- a walk has reported once each row that it has passed, or the row was absent at one of its moments. Every call of the others keeps this, and the reader's own step
 -- keeps it and answers right.
+use Rattle.std.specs.Prelude.{Some, None}
 use Prim.Native.Nat.{ℕ, ◌+◌, ◌-◌, ◌≤◌, ◌<◌}
 use mathlib.Core.Bool.{Bool, true, false, cond, false≢true}
 use mathlib.Core.Path.{◌≡◌, refl, sym, ap, subst, ◌∙◌}
@@ -24,12 +25,11 @@ use Rattle.counting.specs.Steps.{step_bound, step_counted, lookup_counted, reade
 use Rattle.counting.proofs.StepLaws.{counted_one}
 use Rattle.work_ranges.specs.WorkRanges.{search_in_range, lookup_in_range, work_in_range}
 use Rattle.answers.specs.Answers.{has_ended, is_refused}
-use Rattle.plain_list.specs.PlainList.{Rows, Entry, absent, present, entry_of, lookup_entry, lookup_row, Each, Some, here, there}
+use Rattle.plain_list.specs.PlainList.{Rows, Entry, absent, present, entry_of, lookup_entry, lookup_row, Each, Some as SomeOf, here, there}
 use Rattle.plain_list.proofs.RowLaws.{Steady, steady_same}
 use Rattle.plain_list.proofs.Agreement.{valid_low, Agrees, place_low, shown_row, row_shown, word_row}
 use Rattle.search.specs.declared.Searched.{Searched}
 use Rattle.search.specs.declared.Searched.TheVariants.{Going, Answered}
-use Rattle.search.specs.declared.SearchAnswer.TheVariants.{Found, Unknown}
 use Rattle.search.specs.Access.{word_read}
 use Rattle.search.specs.Search.{search_access, search_advance}
 use Rattle.search.proofs.SearchLaws.{search_left, some_left, searched_left, OneStep, search_step}
@@ -42,7 +42,7 @@ use Rattle.history.specs.Claim.{WordRight, reports, ReportedOnce, ReaderRight, l
 
 -- the point was on no row at one of these moments
 abbrev pub Missed : ℕ → List Rows → Type 0
-Missed q moments = Some (λ (rows : Rows). entry_of q rows ≡ absent) moments
+Missed q moments = SomeOf (λ (rows : Rows). entry_of q rows ≡ absent) moments
 
 -- a search past its first step has made one
 abbrev pub FirstMade : Search → ℕ → Type 0
@@ -151,7 +151,7 @@ module _ (m k : ℕ) (rows after : Rows) (notes : ReaderNotes) (steady : Steady 
   reader_on (LookingUp lookup) h = looking_on lookup.point lookup.search lookup.steps h
   reader_on (Walking walk) h = walking_on walk.next h
 
-some_map : {A : Type 0} {P Q : A → Type 0} → ((x : A) → P x → Q x) → (l : List A) → Some P l → Some Q l
+some_map : {A : Type 0} {P Q : A → Type 0} → ((x : A) → P x → Q x) → (l : List A) → SomeOf P l → SomeOf Q l
 some_map f l (here {x = x} p) = here (f x p)
 some_map f l (there {rest = rest} p) = there (some_map f rest p)
 
@@ -208,7 +208,7 @@ module _ (m k reach : ℕ) (counts slots : List ℕ) (rows : Rows) (agrees : Agr
           carried = refl;
           direct = refl;
         }
-    effect_right (Answered (Found place)) known one =
+    effect_right (Answered (Some place)) known one =
         record {
           ok = refl;
           right =
@@ -222,7 +222,7 @@ module _ (m k reach : ℕ) (counts slots : List ℕ) (rows : Rows) (agrees : Agr
           carried = refl;
           direct = refl;
         }
-    effect_right (Answered Unknown) known one =
+    effect_right (Answered None) known one =
         record {
           ok = refl;
           right =

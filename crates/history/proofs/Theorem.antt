@@ -10,9 +10,9 @@ use Rattle.history.specs.World.{World, outcome_of, next, fresh_world}
 use Rattle.history.specs.Claim.{Right, StepInTurn, WorldRight, Holds, ArgumentsFit, AllFit, Demand3}
 use Rattle.history.proofs.Invariant.{Inv, fresh_inv}
 use Rattle.history.proofs.Kept.{Kept}
-use Rattle.history.proofs.ReaderCalls.{lookup_kept, walk_kept, step_kept as reader-step-kept}
+use Rattle.history.proofs.ReaderCalls.{lookup_kept, walk_kept, step_kept as reader_step_kept}
 use Rattle.history.proofs.WriterStarts.{put_kept, change_kept, removal_kept, command_kept}
-use Rattle.history.proofs.WriterSteps.{step_kept as writer-step-kept}
+use Rattle.history.proofs.WriterSteps.{step_kept as writer_step_kept}
 use Rattle.history.proofs.TurnCalls.{turn_kept}
 use Rattle.history.proofs.Turns.{TurnsOK, turns_kept, fresh_turns}
 use Rattle.history.proofs.InTurn.{made, world_right, step_in_turn}
@@ -22,12 +22,12 @@ call_kept : (world : World) → Inv world.panel.m world.panel.k world → (call 
 unfolding applied
 call_kept world inv (StartLookup reader point) frame fit = lookup_kept world inv reader point frame
 call_kept world inv (StartWalk reader) frame fit = walk_kept world inv reader frame
-call_kept world inv (StepReader reader) frame fit = reader-step-kept world inv reader frame
+call_kept world inv (StepReader reader) frame fit = reader_step_kept world inv reader frame
 call_kept world inv (StartPut point value) frame fit = put_kept world inv point value frame fit.1
 call_kept world inv (StartChange point keep flip) frame fit = change_kept world inv point keep flip frame fit.2
 call_kept world inv (StartRemoval point) frame fit = removal_kept world inv point frame
 call_kept world inv StartCommand frame fit = command_kept world inv frame
-call_kept world inv StepWriter frame fit = writer-step-kept world inv frame
+call_kept world inv StepWriter frame fit = writer_step_kept world inv frame
 call_kept world inv Turn frame fit = turn_kept world inv frame
 
 -- what holds of a world all along: the invariant, and what is kept of the turns

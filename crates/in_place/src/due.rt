@@ -10,7 +10,6 @@ use circle::party_due;
 use record::idle::is_reader_idle;
 use record::{Reader, Record};
 use record_ranges::{are_counts_in_range, are_parts_in_range, reader_joined};
-use std::num::wrapping_add_u32;
 
 // What is seen of the readers so far: whether they are in range, and the marks of who has work.
 #[derive(Clone, Copy)]
@@ -24,9 +23,8 @@ pub(crate) struct Seen {
 fn reader_seen(before: Seen, reader: Reader, m: u32, k: u32) -> Seen
     ensures { (result.fit ≡ both before.fit (reader_in_range m k reader)) × (result.marks ≡ marked_with before.marks reader) }
 {
-    let twice = wrapping_add_u32(before.marks, before.marks);
-    let work = reader.work;
-    if is_reader_idle(work) {
+    let twice = before.marks.wrapping_add(before.marks);
+    if is_reader_idle(reader.work) {
         return Seen {
             fit: before.fit,
             marks: twice,
@@ -34,13 +32,13 @@ fn reader_seen(before: Seen, reader: Reader, m: u32, k: u32) -> Seen
     }
     Seen {
         fit: reader_joined(before.fit, reader, m, k),
-        marks: wrapping_add_u32(twice, 1),
+        marks: twice.wrapping_add(1),
     }
 }
 
 // All readers, two an iteration, as in `ranges`.
-fn readers_seen(panel: &Record, m: u32, k: u32) -> Seen
-    ensures { (result.fit ≡ readers_in_range m k panel.now.readers) × (result.marks ≡ marked_behind 0 panel.now.readers) }
+fn readers_seen(panel: &Record) -> Seen
+    ensures { (result.fit ≡ readers_in_range panel.now.m panel.now.k panel.now.readers) × (result.marks ≡ marked_behind 0 panel.now.readers) }
 {
     let mut seen = Seen {
         fit: true,
@@ -48,9 +46,9 @@ fn readers_seen(panel: &Record, m: u32, k: u32) -> Seen
     };
     let mut i = 0;
     while i < 16 {
-        seen = reader_seen(seen, panel.readers[i], m, k);
+        seen = reader_seen(seen, panel.readers[i], panel.m, panel.k);
         i += 1;
-        seen = reader_seen(seen, panel.readers[i], m, k);
+        seen = reader_seen(seen, panel.readers[i], panel.m, panel.k);
         i += 1;
     }
     seen
@@ -61,14 +59,17 @@ fn readers_seen(panel: &Record, m: u32, k: u32) -> Seen
 pub(crate) fn due_at(panel: &Record, lent: usize) -> u32
     ensures { result ≡ due_by (in_range lent panel.now) panel.now.place panel.now.writer.work (marked_behind 0 panel.now.readers) }
 {
-    let m = panel.m;
-    let k = panel.k;
-    let reach = panel.reach;
-    let writer = panel.writer;
-    let place = panel.place;
-    let counts = are_counts_in_range(&panel.counts, m, k);
-    let seen = readers_seen(panel, m, k);
-    let stations = are_stations_in_range(panel);
-    let fits = are_parts_in_range(lent, m, k, reach, counts, writer, seen.fit, stations, place);
-    party_due(fits, place, writer, seen.marks)
+    let seen = readers_seen(panel);
+    let fits = are_parts_in_range(
+        lent,
+        panel.m,
+        panel.k,
+        panel.reach,
+        are_counts_in_range(&panel.counts, panel.m, panel.k),
+        panel.writer,
+        seen.fit,
+        are_stations_in_range(panel),
+        panel.place,
+    );
+    party_due(fits, panel.place, panel.writer, seen.marks)
 }

@@ -6,15 +6,15 @@ ghost use Rattle.record_ranges.specs.Ranges.{readers_in_range, stations_in_range
 use record::Record;
 use record_ranges::{are_counts_in_range, are_parts_in_range, reader_joined, station_joined};
 
-fn are_readers_in_range(panel: &Record, m: u32, k: u32) -> bool
-    ensures { result ≡ readers_in_range m k panel.now.readers }
+fn are_readers_in_range(panel: &Record) -> bool
+    ensures { result ≡ readers_in_range panel.now.m panel.now.k panel.now.readers }
 {
     let mut fit = true;
     let mut i = 0;
     while i < 16 {
-        fit = reader_joined(fit, panel.readers[i], m, k);
+        fit = reader_joined(fit, panel.readers[i], panel.m, panel.k);
         i += 1;
-        fit = reader_joined(fit, panel.readers[i], m, k);
+        fit = reader_joined(fit, panel.readers[i], panel.m, panel.k);
         i += 1;
     }
     fit
@@ -39,13 +39,15 @@ pub(crate) fn are_stations_in_range(panel: &Record) -> bool
 pub(crate) fn fits_at(panel: &Record, lent: usize) -> bool
     ensures { result ≡ in_range lent panel.now }
 {
-    let m = panel.m;
-    let k = panel.k;
-    let reach = panel.reach;
-    let writer = panel.writer;
-    let place = panel.place;
-    let counts = are_counts_in_range(&panel.counts, m, k);
-    let readers = are_readers_in_range(panel, m, k);
-    let stations = are_stations_in_range(panel);
-    are_parts_in_range(lent, m, k, reach, counts, writer, readers, stations, place)
+    are_parts_in_range(
+        lent,
+        panel.m,
+        panel.k,
+        panel.reach,
+        are_counts_in_range(&panel.counts, panel.m, panel.k),
+        panel.writer,
+        are_readers_in_range(panel),
+        are_stations_in_range(panel),
+        panel.place,
+    )
 }

@@ -1,5 +1,6 @@
 -- Laws of a field: what the code keeps of its bytes is read as the bytes are, as a number and as a letter.
 -- Digits are followed from any count and value on; they stop being a number where the whole of them is none.
+use Rattle.std.specs.Prelude.{Option, Some, None}
 use Prim.Native.Nat.{ℕ, suc, ◌+◌, ◌*◌, ◌-◌, ◌≤◌, ◌<◌}
 use mathlib.Core.Path.{◌≡◌, refl, sym, ◌∙◌, ap}
 use mathlib.Core.Bool.{Bool, true, false, cond, ◌&&◌, true≢false, false≢true}
@@ -12,8 +13,6 @@ use lib.ListN.{length}
 use Rattle.conditions.specs.Conditions.{both, within}
 use Rattle.line.specs.declared.field.Field.{Field}
 use Rattle.line.specs.declared.field.Field.TheVariants.{Empty, Letter, Digits, Other}
-use Rattle.line.specs.declared.field.Reading.{Reading}
-use Rattle.line.specs.declared.field.Reading.TheVariants.{Number, NoNumber}
 use Rattle.line.specs.Grammar.{digit, all_digits, decimal, is_number, read_number, is_letter}
 use Rattle.line.specs.LineState.{kept, digits_field, digits_more, first_byte, field_more, field_from, number_of, is_letter_field}
 
@@ -29,20 +28,20 @@ grows value [] = omega arith
 grows value (byte ∷ bytes) = omega (arith, grows (value * 10 + (byte - 48)) bytes)
 
 -- the number that is read where all three tests hold
-abbrev read_if : Bool → Bool → Bool → ℕ → Reading
-read_if a b c n = cond (a && b && c) (Number n) NoNumber
+abbrev read_if : Bool → Bool → Bool → ℕ → Option ℕ
+read_if a b c n = cond (a && b && c) (Some n) None
 
-not_second : (a b c : Bool) (n : ℕ) → b ≡ false → read_if a b c n ≡ NoNumber
+not_second : (a b c : Bool) (n : ℕ) → b ≡ false → read_if a b c n ≡ None
 not_second true b c n e = rw e
 not_second false b c n e = refl
 
-not_third : (a b c : Bool) (n : ℕ) → c ≡ false → read_if a b c n ≡ NoNumber
+not_third : (a b c : Bool) (n : ℕ) → c ≡ false → read_if a b c n ≡ None
 not_third true true c n e = rw e
 not_third true false c n e = refl
 not_third false b c n e = refl
 
 -- what is read of digits that have these bytes behind them
-abbrev digits_read : ℕ → ℕ → List ℕ → Reading
+abbrev digits_read : ℕ → ℕ → List ℕ → Option ℕ
 digits_read count value bytes = read_if (all_digits bytes) (leb (count + length bytes) 10) (leb (decimal value bytes) 4294967295) (decimal value bytes)
 
 abbrev DigitsRead : List ℕ → Type 0
@@ -131,7 +130,7 @@ digits_kept (byte ∷ bytes) digits few = go (digit byte) refl digits
     go true e later = kept_from (byte ∷ bytes) 0 0 digits (omega arith) ∙ rw (zero-add n, ne_eqb n 0 λ same. omega arith)
     go false e later = absurd (false≢true later)
 
-letter_no_number : (letter : ℕ) (bytes : List ℕ) → number_of (field_from (Letter letter) bytes) ≡ NoNumber
+letter_no_number : (letter : ℕ) (bytes : List ℕ) → number_of (field_from (Letter letter) bytes) ≡ None
 unfolding field_from field_more number_of
 letter_no_number letter [] = refl
 letter_no_number letter (byte ∷ bytes) = rw (other_stays bytes)

@@ -8,7 +8,8 @@ use native.Mathlib.Numerals.{add-one}
 use native.Mathlib.Omega.{arith}
 use borrow.Author.Tests.{leb-true, leb-false}
 use lib.Dec.{leb}
-use lib.ListN.{length, get_or, take, length-take, drop_of_length-le}
+use lib.ListN.{length, get_or, take, drop, length-take, drop_of_length-le}
+use Rattle.std.proofs.Common.{length-drop, length-take-le, get_or-drop, get_or-take}
 use lib.Seq.{slice, slice-cons}
 use Rattle.conditions.proofs.ConditionLaws.{within_high}
 use Rattle.line.specs.declared.field.Field.{Field}
@@ -74,6 +75,16 @@ pub slice_none : (l : List ℕ) (i to : ℕ) → to ≤ i → slice i to l ≡ [
 slice_none l i to h =
     let short : length (take to l) ≤ i = simp length-take (omega arith) in
     drop_of_length-le (take to l) short
+
+-- of the bytes from a place on, so many of them: how many there are, and that each is the buffer's
+module _ (l : List ℕ) (from n k : ℕ) (inside : from + n ≤ length l) where
+  pub run_length : length (take (from + n - from) (drop from l)) ≡ n
+  run_length =
+      let many : from + n - from ≡ n = omega arith in
+      rw many (length-take-le n (drop from l) (simp length-drop (omega arith)))
+
+  pub run_byte : k < n → get_or (take (from + n - from) (drop from l)) k 0 ≡ get_or l (from + k) 0
+  run_byte more = get_or-take (from + n - from) (drop from l) k 0 (omega arith) ∙ get_or-drop from l k 0
 
 -- the digits of a run that are left at a place
 unfoldable pub left_at : List ℕ → ℕ → ℕ → ℕ → List ℕ

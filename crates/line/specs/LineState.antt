@@ -1,14 +1,12 @@
 -- What the code keeps of a line and does with each byte; proofs/GrammarLaws.antt shows that it reads what Grammar says.
-use Rattle.std.specs.Prelude.{ℕ, ◌+◌, ◌*◌, ◌-◌, Bool, false, cond, List, [], ◌∷◌, ltb, leb, eqb}
+use Rattle.std.specs.Prelude.{Option, Some, None, ℕ, ◌+◌, ◌*◌, ◌-◌, Bool, false, cond, List, [], ◌∷◌, ltb, leb, eqb}
 use Rattle.line.specs.declared.field.Field.{Field}
 use Rattle.line.specs.declared.field.Field.TheVariants.{Empty, Letter, Digits, Other}
-use Rattle.line.specs.declared.field.Reading.{Reading}
-use Rattle.line.specs.declared.field.Reading.TheVariants.{Number, NoNumber}
 use Rattle.line.specs.declared.state.Fields.{Fields}
 use Rattle.line.specs.declared.state.Fields.TheVariants.{Nothing, One, Two, TooMany}
 use Rattle.line.specs.declared.state.Line.{Line}
 use Rattle.line.specs.declared.commands.CommandLine.{CommandLine}
-use Rattle.line.specs.declared.sizes.SizesLine.{SizesLine}
+use Rattle.line.specs.declared.sizes.Sizes.{Sizes}
 use Rattle.line.specs.Grammar.{digit, sizes_line, put_line, lookup_line, removal_line}
 
 -- digits, as long as what they say fits 32 bits
@@ -41,11 +39,11 @@ field_from field [] = field
 field_from field (byte ∷ bytes) = field_from (field_more field byte) bytes
 
 -- the number that the field is
-unfoldable pub number_of : Field → Reading
-number_of Empty = NoNumber
-number_of (Letter letter) = NoNumber
-number_of (Digits digits) = Number digits.value
-number_of Other = NoNumber
+unfoldable pub number_of : Field → Option ℕ
+number_of Empty = None
+number_of (Letter letter) = None
+number_of (Digits digits) = Some digits.value
+number_of Other = None
 
 -- the field is this letter
 unfoldable pub is_letter_field : ℕ → Field → Bool
@@ -87,34 +85,34 @@ unfoldable pub line_after : List ℕ → Line
 line_after bytes = line_from line_begin bytes
 
 -- a line of two fields: a lookup or a removal
-unfoldable pub point_command : Field → Field → CommandLine
+unfoldable pub point_command : Field → Field → Option CommandLine
 point_command letter point =
     cond (is_letter_field 76 letter) (lookup_line (number_of point))
-    (cond (is_letter_field 82 letter) (removal_line (number_of point)) CommandLine.Unreadable)
+    (cond (is_letter_field 82 letter) (removal_line (number_of point)) None)
 
 -- a line of three fields: a put
-unfoldable pub put_command : Field → Field → Field → CommandLine
+unfoldable pub put_command : Field → Field → Field → Option CommandLine
 put_command letter point value =
-    cond (is_letter_field 80 letter) (put_line (number_of point) (number_of value)) CommandLine.Unreadable
+    cond (is_letter_field 80 letter) (put_line (number_of point) (number_of value)) None
 
 -- what a whole line asks for, by its ended fields and its last one
-unfoldable pub command_with : Fields → Field → CommandLine
-command_with Nothing last = CommandLine.Unreadable
+unfoldable pub command_with : Fields → Field → Option CommandLine
+command_with Nothing last = None
 command_with (One letter) last = point_command letter last
 command_with (Two letter point) last = put_command letter point last
-command_with TooMany last = CommandLine.Unreadable
+command_with TooMany last = None
 
 -- what a whole line behind the first asks for
-unfoldable pub command_of : Line → CommandLine
+unfoldable pub command_of : Line → Option CommandLine
 command_of line = command_with line.ended line.last
 
 -- what a whole line says of the sizes, by its ended fields and its last one
-unfoldable pub sizes_with : Fields → Field → SizesLine
-sizes_with Nothing last = SizesLine.Unreadable
+unfoldable pub sizes_with : Fields → Field → Option Sizes
+sizes_with Nothing last = None
 sizes_with (One m) last = sizes_line (number_of m) (number_of last)
-sizes_with (Two first second) last = SizesLine.Unreadable
-sizes_with TooMany last = SizesLine.Unreadable
+sizes_with (Two first second) last = None
+sizes_with TooMany last = None
 
 -- what the whole first line says
-unfoldable pub sizes_of : Line → SizesLine
+unfoldable pub sizes_of : Line → Option Sizes
 sizes_of line = sizes_with line.ended line.last

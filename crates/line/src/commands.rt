@@ -1,9 +1,8 @@
 // What a whole line behind the first one asks for.
 ghost use Rattle.std.specs.Prelude.{◌≡◌};
-ghost use Rattle.line.specs.Grammar.{lookup_line, removal_line, put_line};
-ghost use Rattle.line.specs.LineState.{command_of, point_command, put_command};
+ghost use Rattle.line.specs.LineState.{command_of};
 
-use crate::field::{Field, Reading, is_letter, number_of};
+use crate::field::Field;
 use crate::state::{Fields, Line};
 
 #[derive(Clone, Copy)]
@@ -11,7 +10,6 @@ pub enum CommandLine {
     Put(PutLine),
     Lookup(u32),
     Removal(u32),
-    Unreadable,
 }
 
 #[derive(Clone, Copy)]
@@ -20,72 +18,20 @@ pub struct PutLine {
     pub value: u32,
 }
 
-#[tactic(auto, unfolding(crate::specs::LineState::command_of, crate::specs::LineState::command_with))]
-pub fn command_of(line: Line) -> CommandLine
-    ensures { result ≡ command_of line }
-{
-    let ended = line.ended;
-    let last = line.last;
-    match ended {
-        Fields::Nothing => CommandLine::Unreadable,
-        Fields::One(letter) => point_command(letter, last),
-        Fields::Two(letter, point) => put_command(letter, point, last),
-        Fields::TooMany => CommandLine::Unreadable,
-    }
-}
-
-#[tactic(auto, unfolding(crate::specs::LineState::point_command))]
-fn point_command(letter: Field, point: Field) -> CommandLine
-    ensures { result ≡ point_command letter point }
-{
-    if is_letter(b'L', letter) {
-        return lookup_line(number_of(point));
-    }
-    if is_letter(b'R', letter) {
-        return removal_line(number_of(point));
-    }
-    CommandLine::Unreadable
-}
-
-#[tactic(auto, unfolding(crate::specs::LineState::put_command))]
-fn put_command(letter: Field, point: Field, value: Field) -> CommandLine
-    ensures { result ≡ put_command letter point value }
-{
-    if is_letter(b'P', letter) {
-        return put_line(number_of(point), number_of(value));
-    }
-    CommandLine::Unreadable
-}
-
-#[tactic(auto, unfolding(crate::specs::Grammar::lookup_line))]
-fn lookup_line(point: Reading) -> CommandLine
-    ensures { result ≡ lookup_line point }
-{
-    match point {
-        Reading::Number(p) => CommandLine::Lookup(p),
-        Reading::NoNumber => CommandLine::Unreadable,
-    }
-}
-
-#[tactic(auto, unfolding(crate::specs::Grammar::removal_line))]
-fn removal_line(point: Reading) -> CommandLine
-    ensures { result ≡ removal_line point }
-{
-    match point {
-        Reading::Number(p) => CommandLine::Removal(p),
-        Reading::NoNumber => CommandLine::Unreadable,
-    }
-}
-
-#[tactic(auto, unfolding(crate::specs::Grammar::put_line))]
-fn put_line(point: Reading, value: Reading) -> CommandLine
-    ensures { result ≡ put_line point value }
-{
-    match point {
-        Reading::Number(p) => match value {
-            Reading::Number(v) => CommandLine::Put(PutLine { point: p, value: v }),
-            Reading::NoNumber => CommandLine::Unreadable,
-        },
-        Reading::NoNumber => CommandLine::Unreadable,
+impl Line {
+    // None where the line cannot be read.
+    #[tactic(auto, unfolding(crate::specs::Grammar::lookup_line, crate::specs::Grammar::removal_line, crate::specs::Grammar::put_line, crate::specs::LineState::is_letter_field, crate::specs::LineState::point_command, crate::specs::LineState::put_command, crate::specs::LineState::command_with, crate::specs::LineState::command_of))]
+    pub fn command(self) -> Option<CommandLine>
+        ensures { result ≡ command_of self }
+    {
+        match self.ended {
+            Fields::One(Field::Letter(b'L')) => Some(CommandLine::Lookup(self.last.number()?)),
+            Fields::One(Field::Letter(b'R')) => Some(CommandLine::Removal(self.last.number()?)),
+            Fields::Two(Field::Letter(b'P'), point) => Some(CommandLine::Put(PutLine {
+                point: point.number()?,
+                value: self.last.number()?,
+            })),
+            _ => None,
+        }
     }
 }

@@ -9,8 +9,8 @@ mod run;
 mod sizes;
 mod state;
 
-pub use commands::{CommandLine, PutLine, command_of};
+pub use commands::{CommandLine, PutLine};
 pub use field::{Digits, Field};
 pub use part::{Part, part_of};
-pub use sizes::{Sizes, SizesLine, sizes_of};
-pub use state::{Fields, Line, begin, more};
+pub use sizes::Sizes;
+pub use state::{Fields, Line};

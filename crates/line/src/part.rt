@@ -3,8 +3,8 @@ ghost use Rattle.std.specs.Prelude.{◌≡◌};
 ghost use Rattle.std.proofs.Math.Seq.{slice};
 ghost use Rattle.line.specs.LineParts.{part_of};
 
-use crate::run::{digits_run, lesser};
-use crate::state::{Line, more};
+use crate::run::digits_run;
+use crate::state::Line;
 
 // The line with all the bytes that the buffer holds of it.
 #[derive(Clone, Copy)]
@@ -21,29 +21,24 @@ pub struct Part {
 pub fn part_of(bytes: &[u8], line: Line, from: usize, to: usize) -> Part
     ensures { result ≡ part_of line from (slice from to bytes.now) }
 {
-    let end = lesser(to, bytes.len());
+    let end = to.min(bytes.len());
     let mut part = line;
     let mut i = from;
     while i < end {
         let byte = bytes[i];
         let next = i + 1;
-        if byte == 10 {
+        if byte == b'\n' {
             return Part {
                 line: part,
                 whole: true,
-                next: next,
+                next,
             };
         }
-        part = more(part, byte);
+        part = part.more(byte);
         i = next;
-        if byte == 32 {
+        if byte == b' ' {
             let run = digits_run(bytes, next, end);
-            let ended = part.ended;
-            let last = run.field;
-            part = Line {
-                ended: ended,
-                last: last,
-            };
+            part.last = run.field;
             i = run.next;
         }
     }

@@ -2,16 +2,16 @@
 ghost use Rattle.std.specs.Prelude.{◌≡◌};
 ghost use Rattle.line.specs.LineState.{line_begin, line_more, with_ended};
 
-use crate::field::{Field, field_more};
+use crate::field::Field;
 
-#[derive(Clone, Copy)]
+#[derive(Clone, Copy, PartialEq, Eq)]
 pub struct Line {
     pub ended: Fields,
     pub last: Field,
 }
 
 // No readable line has more than three fields, the last one included.
-#[derive(Clone, Copy)]
+#[derive(Clone, Copy, PartialEq, Eq)]
 pub enum Fields {
     Nothing,
     One(Field),
@@ -19,45 +19,46 @@ pub enum Fields {
     TooMany,
 }
 
-// A line of which no byte has been given.
-#[tactic(auto, unfolding(crate::specs::LineState::line_begin))]
-pub fn begin() -> Line
-    ensures { result ≡ line_begin }
-{
-    Line {
-        ended: Fields::Nothing,
-        last: Field::Empty,
-    }
-}
-
-// The line with one byte more. Each space ends a field, so that two in a row leave an empty one.
-#[tactic(auto, unfolding(crate::specs::LineState::line_more, crate::specs::LineState::next_field, crate::specs::LineState::same_field))]
-pub fn more(line: Line, byte: u8) -> Line
-    ensures { result ≡ line_more line byte }
-{
-    let ended = line.ended;
-    let last = line.last;
-    if byte == 32 {
-        return Line {
-            ended: with_ended(ended, last),
+impl Line {
+    // A line of which no byte has been given.
+    #[tactic(auto, unfolding(crate::specs::LineState::line_begin))]
+    pub fn new() -> Line
+        ensures { result ≡ line_begin }
+    {
+        Line {
+            ended: Fields::Nothing,
             last: Field::Empty,
-        };
+        }
     }
-    Line {
-        ended: ended,
-        last: field_more(last, byte),
+
+    // The line with one byte more. Each space ends a field, so that two in a row leave an empty one.
+    #[tactic(auto, unfolding(crate::specs::LineState::line_more, crate::specs::LineState::next_field, crate::specs::LineState::same_field))]
+    pub fn more(self, byte: u8) -> Line
+        ensures { result ≡ line_more self byte }
+    {
+        if byte == b' ' {
+            return Line {
+                ended: self.ended.with(self.last),
+                last: Field::Empty,
+            };
+        }
+        Line {
+            ended: self.ended,
+            last: self.last.more(byte),
+        }
     }
 }
 
-// The ended fields with one more.
-#[tactic(auto, unfolding(crate::specs::LineState::with_ended))]
-fn with_ended(ended: Fields, last: Field) -> Fields
-    ensures { result ≡ with_ended ended last }
-{
-    match ended {
-        Fields::Nothing => Fields::One(last),
-        Fields::One(first) => Fields::Two(first, last),
-        Fields::Two(_, _) => Fields::TooMany,
-        Fields::TooMany => Fields::TooMany,
+impl Fields {
+    // The ended fields with one more.
+    #[tactic(auto, unfolding(crate::specs::LineState::with_ended))]
+    fn with(self, last: Field) -> Fields
+        ensures { result ≡ with_ended self last }
+    {
+        match self {
+            Fields::Nothing => Fields::One(last),
+            Fields::One(first) => Fields::Two(first, last),
+            Fields::Two(_, _) | Fields::TooMany => Fields::TooMany,
+        }
     }
 }

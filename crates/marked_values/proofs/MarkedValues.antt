@@ -8,12 +8,12 @@ use Rattle.record.specs.Parts.{fresh_record, work_of, with_work, with_writer, wi
 use Rattle.slot_words.specs.Points.{valid_point}
 use Rattle.counting.specs.Steps.{step_counted, lookup_counted, reader_counted, put_counted, removal_counted, writer_counted}
 use Rattle.work_ranges.specs.WorkRanges.{search_in_range, steps_in_range, lookup_in_range, work_in_range, put_stage_in_range, put_in_range, removal_stage_in_range, removal_in_range, writer_in_range}
-use Rattle.record_ranges.specs.Ranges.{all, sizes_in_range, counts_in_range, reader_in_range, readers_in_range, station_in_range, stations_in_range, parts_in_range, in_range}
+use Rattle.record_ranges.specs.Ranges.{sizes_in_range, counts_in_range, reader_in_range, readers_in_range, station_in_range, stations_in_range, parts_in_range, in_range}
 use Rattle.answers.specs.Answers.{unless_refused}
 use Rattle.plain_list.specs.PlainList.{Each}
 use Rattle.search.specs.Access.{word_read}
 use Rattle.search.specs.Search.{search_access, first_probe, next_probe, holds_point, probe_advance, search_advance}
-use Rattle.reader_step.specs.Reader.{reader_access, lookup_ending, lookup_effect, lookup_advance, reader_advance, work_runs, work_refusal as Reader·workRefusal, step_refusal as Reader·stepRefusal, after_step as Reader·afterStep, reader_runs, step_reader}
+use Rattle.reader_step.specs.Reader.{reader_access, lookup_ending, lookup_effect, lookup_advance, reader_advance, work_runs, work_refusal as reader_work_refusal, step_refusal as reader_step_refusal, after_step as reader_after_step, reader_runs, step_reader}
 use Rattle.fresh_panel.specs.FreshPanel.{make_fresh}
 use Rattle.reader_starts.specs.Starts.{lookup_work_refusal, lookup_refusal, start_reader, start_lookup}
 use Rattle.effects.specs.Memory.{store_word, slot_stored, access_read, slots_after}
@@ -31,10 +31,10 @@ use Rattle.marked_values.specs.Marked.{Agrees, run_line, run, answers_of, fresh,
 
 pub marked : Each Agrees marked_values
 unfolding both either within outside refuse_if z position_of taken_slots fresh_record work_of with_work with_readers with_writer with_reach numbered with_numbered count_of
-    with_count with_counts valid_point step_counted lookup_counted reader_counted put_counted removal_counted writer_counted search_in_range steps_in_range lookup_in_range work_in_range put_stage_in_range put_in_range removal_stage_in_range removal_in_range writer_in_range all
+    with_count with_counts valid_point step_counted lookup_counted reader_counted put_counted removal_counted writer_counted search_in_range steps_in_range lookup_in_range work_in_range put_stage_in_range put_in_range removal_stage_in_range removal_in_range writer_in_range
     sizes_in_range counts_in_range reader_in_range readers_in_range station_in_range stations_in_range parts_in_range in_range unless_refused word_read search_access
-    first_probe next_probe holds_point probe_advance search_advance reader_access lookup_ending lookup_effect lookup_advance reader_advance work_runs Reader·workRefusal Reader·stepRefusal
-    Reader·afterStep reader_runs step_reader make_fresh lookup_work_refusal lookup_refusal start_reader start_lookup store_word slot_stored access_read slots_after counted uncounted going_on
+    first_probe next_probe holds_point probe_advance search_advance reader_access lookup_ending lookup_effect lookup_advance reader_advance work_runs reader_work_refusal reader_step_refusal
+    reader_after_step reader_runs step_reader make_fresh lookup_work_refusal lookup_refusal start_reader start_lookup store_word slot_stored access_read slots_after counted uncounted going_on
     ends updated exceeds put_stage_access put_access put_at put_answered put_searched put_scanned put_takes put_stage_advance put_advance removal_stage_access
     removal_access removal_at removal_answered removal_searched is_last removal_empties removal_stage_advance removal_advance work_access work_advance
     work_refusal step_refusal after_step writer_runs step_writer work_start_refusal start_refusal start_writer start_put start_change start_removal until_ended reader_step writer_step whole_lookup

@@ -2,58 +2,32 @@
 
 // A space or a tab.
 pub(crate) fn is_blank(byte: u8) -> bool {
-    match byte {
-        9 => true,
-        32 => true,
-        _ => false,
-    }
+    matches!(byte, b' ' | b'\t')
 }
 
-// No byte of a word stands there: a blank does, or the line has ended.
-fn is_word_end(line: &[u8], at: usize) -> bool {
-    if at < line.len() {
-        return is_blank(line[at]);
-    }
-    true
+// The words of a line that are still to be read.
+#[derive(Clone, Copy)]
+pub(crate) struct Words<'a> {
+    left: &'a [u8],
 }
 
-// The first byte from there on that is no blank, or the line's end.
-pub(crate) fn skip_blanks(line: &[u8], from: usize) -> usize {
-    let mut at = from;
-    while at < line.len() {
-        if !is_blank(line[at]) {
-            return at;
-        }
-        at += 1;
+impl<'a> Words<'a> {
+    pub(crate) fn of(line: &'a [u8]) -> Self {
+        Words { left: line }
     }
-    at
-}
 
-// What stands behind the word there: a blank, or the line's end.
-pub(crate) fn word_end(line: &[u8], from: usize) -> usize {
-    let mut at = from;
-    while at < line.len() {
-        if is_blank(line[at]) {
-            return at;
-        }
-        at += 1;
+    // The next word; none at the line's end.
+    pub(crate) fn next(&mut self) -> Option<&'a [u8]> {
+        let start = self.left.iter().position(|byte| !is_blank(*byte))?;
+        let begun = &self.left[start..];
+        let length = begun.iter().position(|byte| is_blank(*byte));
+        let (word, left) = begun.split_at(length.unwrap_or(begun.len()));
+        self.left = left;
+        Some(word)
     }
-    at
-}
 
-// The word there is this one.
-pub(crate) fn is_word(line: &[u8], from: usize, word: &[u8]) -> bool {
-    let mut at = from;
-    let mut i = 0;
-    while i < word.len() {
-        if line.len() <= at {
-            return false;
-        }
-        if line[at] != word[i] {
-            return false;
-        }
-        at += 1;
-        i += 1;
+    // What stands behind the words read, byte by byte.
+    pub(crate) fn rest(self) -> &'a [u8] {
+        self.left
     }
-    is_word_end(line, at)
 }

@@ -7,28 +7,29 @@ use native.Mathlib.Omega.{arith}
 use borrow.Author.Tests.{eqb-true, ne_eqb, not-false}
 use lib.Dec.{eqb}
 use lib.ListN.{length, length-replicate, get_or}
+use Rattle.std.specs.Prelude.{Option, Result, Ok, Err}
 use Rattle.refusal.specs.declared.Refusal.{Refusal}
 use Rattle.conditions.specs.Conditions.{both, either}
 use Rattle.refusal.proofs.Laws.{not_refused, number_positive}
 use Rattle.record.specs.declared.Record.{Record}
 use Rattle.record.specs.Parts.{fresh_record}
 use Rattle.record_ranges.specs.Ranges.{in_range}
+use Rattle.answers.specs.declared.Given.{Given}
 use Rattle.answers.specs.declared.StepResult.{StepResult}
 use Rattle.answers.specs.declared.StepResult.TheVariants.{Underway as StepResult-as-Underway, Ended as StepResult-as-Ended, Walked, WalkedLast}
 use Rattle.answers.specs.Answers.{Answer, started, underway, ended, walked, walked_last, served, given_again, gives, refused, has_ended, is_started, is_refused, paper_result, paper_call, Outcome, outcome, unless_refused}
 use Rattle.plain_list.specs.PlainList.{Rows, Operation, nothing, feed, Shows}
 use Rattle.plain_list.proofs.Agreement.{Agrees, shows}
 use Rattle.plain_rows.specs.declared.Operation.{Operation as OperationFed}
-use Rattle.plain_rows.specs.declared.Operation.TheVariants.{Nothing}
-use Rattle.plain_rows.specs.Rows.{rows_of}
+use Rattle.plain_rows.specs.declared.Row.{Row as RowHeld}
+use Rattle.plain_rows.specs.Rows.{RowsHeld, counted, rows_of, rows_below, listed, held}
 use Rattle.plain_rows.specs.Fed.{operation_of, Feeding, answered, fed_rows}
-use Rattle.plain_rows.proofs.RoomLaws.{fed_by_panel}
+use Rattle.plain_rows.proofs.RoomLaws.{few_rows, fed_by_panel}
+use Rattle.plain_rows.proofs.StoreLaws.{below_held}
 use Rattle.effects.specs.Memory.{stores_slot}
 use Rattle.writer.specs.Step.{writer_access}
-use Rattle.frame.specs.declared.Fields.{Fields}
-use Rattle.frame.specs.declared.Kind.{Kind}
 use Rattle.frame.specs.declared.Reading.{Reading}
-use Rattle.frame.specs.declared.ReadAnswer.TheVariants.{Frame, Refused}
+use Rattle.frame.specs.declared.Frame.{Frame}
 use Rattle.frame.specs.Frames.{fields_in, read_refusal, handed, read_frame}
 use Rattle.frame.specs.Answers.{paper_read}
 use Rattle.command.specs.Command.{sent_of, sent_in, frame_refusal, entry_refusal, start_command}
@@ -41,9 +42,8 @@ use Rattle.history.specs.Claim.{ArgumentsFit}
 use Rattle.history.proofs.Invariant.{Inv}
 use Rattle.history.proofs.Theorem.{Along, fresh_along, call_keeps}
 use Rattle.panel_and_list.specs.declared.Notes.{Notes}
-use Rattle.panel_and_list.specs.declared.PanelState.{PanelState}
-use Rattle.panel_and_list.specs.declared.Carried.{Carried}
-use Rattle.panel_and_list.specs.Kept.{opened_state, serves_writer, is_writer_step, feeds_after, rows_after, notes_begun, notes_stepped, fed_after, Listed, NotesAfter, CallOnBoth, NotesKept, Keeps, Reached, begun, called, request}
+use Rattle.panel_and_list.specs.declared.LentState.{LentState}
+use Rattle.panel_and_list.specs.Kept.{no_notes, opened_state, Opened, serves_writer, is_writer_step, feeds_after, rows_after, notes_begun, notes_stepped, fed_after, Listed, NotesAfter, CallOnBoth, NotesKept, Keeps, Reached, begun, called, request}
 
 -- a step by itself has served nobody
 pub result_serves_none : (result : StepResult) → served_by (paper_result result) ≡ []
@@ -136,7 +136,7 @@ ended_not_refused (refused n) e = absurd (false≢true e)
 
 -- the notes after a start and after a step of the writer, by the code's functions
 module _ (notes : Notes) (feeds : Bool) (answer : Answer) (after : Notes) where
-  pub begun_noted : (operation : OperationFed) (work : Writing) → after ≡ notes_begun notes (is_started answer) operation → (is_started answer ≡ true → operation_of operation ≡ work.operation) → NotesAfter notes feeds answer (writer_start work) after
+  pub begun_noted : (operation : Option OperationFed) (work : Writing) → after ≡ notes_begun notes (is_started answer) operation → (is_started answer ≡ true → operation_of operation ≡ work.operation) → NotesAfter notes feeds answer (writer_start work) after
   unfolding notes_begun writing_after fed_after
   begun_noted operation work e given = record { asked = (go (is_started answer) e given).0; fed = (go (is_started answer) e given).1 }
     where
@@ -148,7 +148,7 @@ module _ (notes : Notes) (feeds : Bool) (answer : Answer) (after : Notes) where
   unfolding notes_stepped writing_after fed_after
   stepped_noted e = record { asked = (go (has_ended answer) e).0; fed = (go (has_ended answer) e).1 }
     where
-      go : (ends : Bool) → after ≡ cond ends (record { asked = Nothing; fed = false }) (record { asked = notes.asked; fed = either notes.fed feeds }) → (operation_of after.asked ≡ (cond ends (writing nothing []) (writing (operation_of notes.asked) [])).operation) × (after.fed ≡ cond ends false (either notes.fed feeds))
+      go : (ends : Bool) → after ≡ cond ends no_notes (record { asked = notes.asked; fed = either notes.fed feeds }) → (operation_of after.asked ≡ (cond ends (writing nothing []) (writing (operation_of notes.asked) [])).operation) × (after.fed ≡ cond ends false (either notes.fed feeds))
       go true e = (ap (λ (n : Notes). operation_of n.asked) e, ap (λ (n : Notes). n.fed) e)
       go false e = (ap (λ (n : Notes). operation_of n.asked) e, ap (λ (n : Notes). n.fed) e)
 
@@ -217,11 +217,11 @@ module _ (bytes : List ℕ) (allowed : frame_refusal bytes ≡ 0) where
       let map = eqb-true (get_or bytes 0 0) 0x0F (not-false (eqb (get_or bytes 0 0) 0x0F) first.0) in
       ap₂ (λ (n map : ℕ). handed n map (fields_in bytes map)) first.1 map
 
-  pub frame_sent : (kind : Kind) (f : Fields) → paper_read (Frame kind f) ≡ read_frame bytes → sent_of f ≡ sent_in bytes
+  pub frame_sent : (f : Frame) → paper_read (Ok f) ≡ read_frame bytes → sent_of f.fields ≡ sent_in bytes
   unfolding handed sent_in
-  frame_sent kind f e = ap (λ (r : Reading). sent_of r.fields) (e ∙ read)
+  frame_sent f e = ap (λ (r : Reading). sent_of r.fields) (e ∙ read)
 
-  pub frame_not_refused : (r : Refusal) → paper_read (Refused r) ≡ read_frame bytes → ⊥
+  pub frame_not_refused : (r : Refusal) → paper_read (Err r) ≡ read_frame bytes → ⊥
   unfolding handed
   frame_not_refused r e = omega (arith, number_positive r, ap (λ (r : Reading). r.refused) (e ∙ read))
 
@@ -236,21 +236,21 @@ started_frame panel slots bytes e =
     go (suc n) done e = absurd (false≢true e)
 
 -- what the code's functions say of a call, together
-module _ (before : PanelState) (slots words places : List ℕ) (call : Call) (frame : List ℕ) (carried : Carried) (slots' words' places' : List ℕ) where
+module _ (before : LentState) (slots : List ℕ) (rows : List RowHeld) (call : Call) (frame : List ℕ) (after : LentState) (gave : Result Given Refusal) (slots' : List ℕ) (rows' : List RowHeld) where
   abbrev given : Answer
-  given = paper_call carried.answer
+  given = paper_call gave
 
   started_command : given ≡ (applied before.panel slots call frame).answer → call ≡ StartCommand → is_started given ≡ true → frame_refusal frame ≡ 0
   unfolding applied
   started_command e command s =
       started_frame before.panel slots frame (ap is_started (sym (e ∙ ap (λ (x : Call). (applied before.panel slots x frame).answer) command)) ∙ s)
 
-  pub carried_out : {feeds : Bool} → feeds ≡ feeds_after before.panel before.notes.fed given (role_of call frame given) → outcome carried.state.panel slots' given ≡ applied before.panel slots call frame → Listed words places words' places' carried.state.rows (rows_after before.panel feeds (operation_of before.notes.asked) words places before.rows) → ((call ≡ StartCommand → is_started given ≡ true → frame_refusal frame ≡ 0) → NotesAfter before.notes feeds given (role_of call frame given) carried.state.notes) → CallOnBoth before slots words places call frame carried slots' words' places'
-  carried_out feeding done listed noted =
+  pub carried_out : {feeds : Bool} → feeds ≡ feeds_after before.panel before.notes.fed given (role_of call frame given) → outcome after.panel slots' given ≡ applied before.panel slots call frame → Listed (counted rows before.count) (counted rows' after.count) (rows_after before.panel feeds (operation_of before.notes.asked) (counted rows before.count)) → ((call ≡ StartCommand → is_started given ≡ true → frame_refusal frame ≡ 0) → NotesAfter before.notes feeds given (role_of call frame given) after.notes) → CallOnBoth before slots rows call frame after gave slots' rows'
+  carried_out feeding done fed noted =
       record {
         done = done;
-        listed = subst (λ (b : Bool). Listed words places words' places' carried.state.rows (rows_after before.panel b (operation_of before.notes.asked) words places before.rows)) feeding listed;
-        noted = subst (λ (b : Bool). NotesAfter before.notes b given (role_of call frame given) carried.state.notes) feeding (noted (started_command (ap (λ (o : Outcome). o.answer) done)));
+        listed_after = subst (λ (b : Bool). Listed (counted rows before.count) (counted rows' after.count) (rows_after before.panel b (operation_of before.notes.asked) (counted rows before.count))) feeding fed;
+        noted = subst (λ (b : Bool). NotesAfter before.notes b given (role_of call frame given) after.notes) feeding (noted (started_command (ap (λ (o : Outcome). o.answer) done)));
       }
 
 -- a world that a list of calls leads to has what holds all along
@@ -263,21 +263,37 @@ reached_along (begun m k m_low m_high k_low k_high) = own m k (fresh_world m k) 
 reached_along (called {world} reached request fit) =
     own world.panel.m world.panel.k (next world request) (call_keeps world.panel.m world.panel.k world request (reached_along reached) fit)
 
+-- no row, whatever entries are lent
+pub opened_lent : (panel : Record) (rows : List RowHeld) → Opened panel (opened_state panel) rows
+unfolding opened_state rows_below
+opened_lent panel rows = record { same = refl; notes = refl; rows_none = refl }
+
+-- and with a list that has no row
+pub opened_beside : (panel : Record) (state : LentState) (list : RowsHeld) → state ≡ opened_state panel → listed list ≡ [] → Opened panel (record { panel = state.panel; notes = state.notes; count = list.count }) list.rows
+unfolding opened_state
+opened_beside panel state list e none =
+    record { same = ap (λ (s : LentState). s.panel) e; notes = ap (λ (s : LentState). s.notes) e; rows_none = none }
+
 -- a fresh panel of which nothing was asked
-pub opened_kept : (m k : ℕ) (words places : List ℕ) → m ≤ length words → m ≤ length places → Keeps (fresh_world m k) (opened_state (fresh_record m k)) (fresh_world m k).slots words places
-unfolding fresh_world fresh_log no_writer_notes rows_of opened_state
-opened_kept m k words places in_words_lem in_places =
+pub opened_kept : (m k : ℕ) (state : LentState) (rows : List RowHeld) → Opened (fresh_record m k) state rows → m ≤ length rows → Keeps (fresh_world m k) state (fresh_world m k).slots rows
+unfolding fresh_world fresh_log no_writer_notes
+opened_kept m k state rows opened room =
     record {
-      panel = refl;
+      panel = opened.same;
       slots_kept = refl;
-      rows = refl;
-      notes = record { asked = refl; fed = refl };
-      words_room = omega (arith, length-replicate {A = ℕ} m 0);
-      places_room = omega (arith, length-replicate {A = ℕ} m 0);
+      rows_kept = opened.rows_none;
+      notes = record {
+        asked = ap (λ (notes : Notes). operation_of notes.asked) opened.notes;
+        fed = ap (λ (notes : Notes). notes.fed) opened.notes;
+      };
+      room = omega (arith, length-replicate {A = ℕ} m 0);
     }
 
 -- a state that keeps such a world
-module _ (world : World) (reached : Reached world) (before : PanelState) (slots words places : List ℕ) (keeps : Keeps world before slots words places) where
+module _ (world : World) (reached : Reached world) (before : LentState) (slots : List ℕ) (rows : List RowHeld) (keeps : Keeps world before slots rows) where
+  abbrev list : RowsHeld
+  list = counted rows before.count
+
   abbrev m : ℕ
   m = world.panel.m
 
@@ -287,34 +303,41 @@ module _ (world : World) (reached : Reached world) (before : PanelState) (slots 
   inv : Inv m k world
   inv = (reached_along reached).inv
 
-  agrees : Agrees m k world.panel.reach world.panel.counts world.slots (rows_of words places before.rows)
-  agrees = subst (λ (rows : Rows). Agrees m k world.panel.reach world.panel.counts world.slots rows) (sym keeps.rows) inv.agrees
+  agrees : Agrees m k world.panel.reach world.panel.counts world.slots (listed list)
+  agrees = subst (λ (rows : Rows). Agrees m k world.panel.reach world.panel.counts world.slots rows) (sym keeps.rows_kept) inv.agrees
 
   as_long : length slots ≡ m
   as_long = ap length keeps.slots_kept ∙ inv.agrees.whole
 
-  told : fed_rows before.panel.m before.panel.k (operation_of before.notes.asked) words places before.rows ≡ answered (told_now world)
+  told : fed_rows before.panel.m before.panel.k (operation_of before.notes.asked) list ≡ answered (told_now world)
   unfolding told_now
   told =
-      ap (λ (panel : Record). fed_rows panel.m panel.k (operation_of before.notes.asked) words places before.rows) keeps.panel
-      ∙ fed_by_panel m k words places before.rows (operation_of before.notes.asked) world.panel.reach world.panel.counts world.slots agrees (omega (arith, as_long, keeps.words_room)) (omega (arith, as_long, keeps.places_room))
-      ∙ ap answered (ap₂ (feed m k) keeps.notes.asked keeps.rows)
+      ap (λ (panel : Record). fed_rows panel.m panel.k (operation_of before.notes.asked) list) keeps.panel
+      ∙ fed_by_panel m k list (operation_of before.notes.asked) world.panel.reach world.panel.counts world.slots agrees (omega (arith, as_long, keeps.room))
+      ∙ ap answered (ap₂ (feed m k) keeps.notes.asked keeps.rows_kept)
 
   -- the slots show the list that is kept
-  pub kept_shows : Shows (length slots) slots (rows_of words places before.rows)
+  pub kept_shows : Shows (length slots) slots (listed list)
   kept_shows =
-      let shown : Shows m world.slots (rows_of words places before.rows) = shows m k world.panel.reach world.panel.counts world.slots (rows_of words places before.rows) agrees in
-      subst (λ (n : ℕ). Shows n slots (rows_of words places before.rows)) (sym as_long) (subst (λ (l : List ℕ). Shows m l (rows_of words places before.rows)) (sym keeps.slots_kept) shown)
+      let shown : Shows m world.slots (listed list) = shows m k world.panel.reach world.panel.counts world.slots (listed list) agrees in
+      subst (λ (n : ℕ). Shows n slots (listed list)) (sym as_long) (subst (λ (l : List ℕ). Shows m l (listed list)) (sym keeps.slots_kept) shown)
+
+  -- and so the entries that hold it, by which the program `orders` asks `do_show`
+  pub kept_shows_held : Shows (length slots) slots (rows_of (held list))
+  kept_shows_held =
+      let few = few_rows m k list (operation_of before.notes.asked) world.panel.reach world.panel.counts world.slots agrees in
+      let inside : before.count ≤ length rows = omega (arith, as_long, keeps.room) in
+      subst (λ (rows : Rows). Shows (length slots) slots rows) (below_held rows before.count inside) kept_shows
 
   -- a call carried out
-  module _ (call : Call) (frame : List ℕ) (carried : Carried) (slots' words' places' : List ℕ) (fit : ArgumentsFit call) (out : CallOnBoth before slots words places call frame carried slots' words' places') where
+  module _ (call : Call) (frame : List ℕ) (after : LentState) (gave : Result Given Refusal) (slots' : List ℕ) (rows' : List RowHeld) (fit : ArgumentsFit call) (out : CallOnBoth before slots rows call frame after gave slots' rows') where
     abbrev role : Role
-    role = role_of call frame (paper_call carried.answer)
+    role = role_of call frame (paper_call gave)
 
     abbrev answer : Answer
-    answer = paper_call carried.answer
+    answer = paper_call gave
 
-    same : outcome carried.state.panel slots' answer ≡ outcome_of world (request call frame)
+    same : outcome after.panel slots' answer ≡ outcome_of world (request call frame)
     unfolding outcome_of
     same = out.done ∙ ap₂ (λ (panel : Record) (slots : List ℕ). applied panel slots call frame) keeps.panel keeps.slots_kept
 
@@ -326,14 +349,14 @@ module _ (world : World) (reached : Reached world) (before : PanelState) (slots 
         ap (λ (panel : Record). feeds_after panel before.notes.fed answer role) keeps.panel
         ∙ feeds_noted world before.notes.fed answer role keeps.notes.fed
 
-    noted_now : NotesAfter before.notes (feeds_now world answer role) answer role carried.state.notes
-    noted_now = subst (λ (feeds : Bool). NotesAfter before.notes feeds answer role carried.state.notes) feeds_now_lem out.noted
+    noted_now : NotesAfter before.notes (feeds_now world answer role) answer role after.notes
+    noted_now = subst (λ (feeds : Bool). NotesAfter before.notes feeds answer role after.notes) feeds_now_lem out.noted
 
-    rows_now_lem : rows_after before.panel (feeds_after before.panel before.notes.fed answer role) (operation_of before.notes.asked) words places before.rows ≡ rows_now world answer role
+    rows_now_lem : rows_after before.panel (feeds_after before.panel before.notes.fed answer role) (operation_of before.notes.asked) list ≡ rows_now world answer role
     unfolding rows_now rows_after
     rows_now_lem =
-        ap₂ (λ (b : Bool) (t : Feeding). cond b t.rows (rows_of words places before.rows)) feeds_now_lem told
-        ∙ ap (λ (rows : Rows). cond (feeds_now world answer role) (told_now world).rows rows) keeps.rows
+        ap₂ (λ (b : Bool) (t : Feeding). cond b t.rows (listed list)) feeds_now_lem told
+        ∙ ap (λ (rows : Rows). cond (feeds_now world answer role) (told_now world).rows rows) keeps.rows_kept
 
     whole : length slots' ≡ length slots
     unfolding next noted
@@ -343,14 +366,13 @@ module _ (world : World) (reached : Reached world) (before : PanelState) (slots 
         ∙ sym as_long
 
     -- what is kept then is the world after it
-    pub kept : Keeps (next world (request call frame)) carried.state slots' words' places'
+    pub kept : Keeps (next world (request call frame)) after slots' rows'
     unfolding next noted log_after
     kept =
         record {
           panel = ap (λ (o : Outcome). o.panel) same;
           slots_kept = ap (λ (o : Outcome). o.slots) same;
-          rows = out.listed.shown ∙ rows_now_lem ∙ ap (λ (a : Answer). rows_now world a (role_of call frame a)) answers;
-          notes = subst (λ (a : Answer). NotesKept carried.state.notes (writing_after world.log.writer (role_of call frame a) a) (writer_now world a (role_of call frame a))) answers (notes_kept world answer role before.notes carried.state.notes keeps.notes noted_now);
-          words_room = omega (arith, out.listed.words_stay.size, keeps.words_room, whole);
-          places_room = omega (arith, out.listed.places_stay.size, keeps.places_room, whole);
+          rows_kept = out.listed_after.shown ∙ rows_now_lem ∙ ap (λ (a : Answer). rows_now world a (role_of call frame a)) answers;
+          notes = subst (λ (a : Answer). NotesKept after.notes (writing_after world.log.writer (role_of call frame a) a) (writer_now world a (role_of call frame a))) answers (notes_kept world answer role before.notes after.notes keeps.notes noted_now);
+          room = omega (arith, out.listed_after.stay.size, keeps.room, whole);
         }

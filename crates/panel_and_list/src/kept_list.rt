@@ -2,7 +2,8 @@
 // that stores the slot, or at its last if it stores none".
 ghost use Rattle.std.specs.Prelude.{ℕ, true, List, ◌≡◌};
 ghost use Rattle.answers.specs.Answers.{paper_call, has_ended, is_started};
-ghost use Rattle.plain_list.specs.PlainList.{change as changeFed};
+ghost use Rattle.plain_list.specs.PlainList.{change as change_fed};
+ghost use Rattle.plain_rows.specs.Rows.{counted};
 ghost use Rattle.plain_rows.specs.Fed.{operation_of};
 ghost use Rattle.effects.specs.Memory.{stores_slot};
 ghost use Rattle.change.specs.Change.{action_masks};
@@ -14,20 +15,25 @@ ghost use Rattle.panel_and_list.specs.Kept.{is_writer_step, feeds_after, notes_b
 
 use crate::Notes;
 use crate::answer_kinds::{has_ended, is_refused, is_started, serves_writer};
-use answers::CallAnswer;
+use answers::Given;
 use calls::Call;
 use change::action_masks;
 use conditions::{both_hold, either_holds};
 use effects::memory::WriterAccess;
-use frame::ReadAnswer;
-use plain_rows::{Operation, feed};
+use plain_rows::{Operation, Row, feed};
 use record::Record;
+use refusal::Refusal;
 use writer::writer_access;
 
 // The call feeds the list. `fed`: the writer's operation has fed it before.
 #[tactic(auto, unfolding(crate::specs::Kept::feeds_after))]
-pub(crate) fn feeds_now(panel: Record, fed: bool, answer: CallAnswer, call: Call) -> bool
-    ensures { (frame : List ℕ) → result ≡ feeds_after panel fed (paper_call answer) (role_of call frame (paper_call answer)) }
+pub(crate) fn feeds_now(
+    panel: &Record,
+    fed: bool,
+    answer: Result<Given, Refusal>,
+    call: Call,
+) -> bool
+    ensures { (frame : List ℕ) → result ≡ feeds_after panel.now fed (paper_call answer) (role_of call frame (paper_call answer)) }
 {
     let stores = stores_now(panel, answer, call);
     let ends = ends_now(answer, call);
@@ -35,177 +41,138 @@ pub(crate) fn feeds_now(panel: Record, fed: bool, answer: CallAnswer, call: Call
 }
 
 // The call is a step of the writer that stores a slot.
-fn stores_now(panel: Record, answer: CallAnswer, call: Call) -> bool
-    ensures { (frame : List ℕ) → result ≡ stores_now panel (paper_call answer) (role_of call frame (paper_call answer)) }
+fn stores_now(panel: &Record, answer: Result<Given, Refusal>, call: Call) -> bool
+    ensures { (frame : List ℕ) → result ≡ stores_now panel.now (paper_call answer) (role_of call frame (paper_call answer)) }
 {
-    let writer = panel.writer;
-    let work = writer.work;
-    let counts = panel.counts;
-    let access = writer_access(panel.m, panel.k, panel.reach, &counts, work);
+    let access = writer_access(panel, panel.writer.work);
     let stores = both_hold(!is_refused(answer), stores_slot(access));
     both_hold(is_writer_step(call, answer), stores)
 }
 
 // The call is the last step of the writer's operation.
-fn ends_now(answer: CallAnswer, call: Call) -> bool
+fn ends_now(answer: Result<Given, Refusal>, call: Call) -> bool
     ensures { (frame : List ℕ) → result ≡ ends_now (paper_call answer) (role_of call frame (paper_call answer)) }
 {
     both_hold(is_writer_step(call, answer), has_ended(answer))
 }
 
-fn is_writer_step(call: Call, answer: CallAnswer) -> bool
+fn is_writer_step(call: Call, answer: Result<Given, Refusal>) -> bool
     ensures { result ≡ is_writer_step call (paper_call answer) }
 {
     match call {
-        Call::StartLookup {
-            reader: _,
-            point: _,
-        } => false,
-        Call::StartWalk { reader: _ } => false,
-        Call::StepReader { reader: _ } => false,
-        Call::StartPut { point: _, value: _ } => false,
-        Call::StartChange {
-            point: _,
-            keep: _,
-            flip: _,
-        } => false,
-        Call::StartRemoval { point: _ } => false,
-        Call::StartCommand => false,
         Call::StepWriter => true,
         Call::Turn => serves_writer(answer),
+        _ => false,
     }
 }
 
 fn stores_slot(access: WriterAccess) -> bool
     ensures { result ≡ stores_slot access }
 {
-    match access {
-        WriterAccess::Read(_) => false,
-        WriterAccess::StoreReach(_) => false,
-        WriterAccess::StoreSlot(_) => true,
-    }
+    matches!(access, WriterAccess::StoreSlot(_))
 }
 
-// The number of rows after the call, which feeds the list or does not.
+// The call feeds the list or does not.
 #[tactic(auto, unfolding(crate::specs::Kept::rows_after))]
-pub(crate) fn rows_now(
-    words: &mut [u64],
-    places: &mut [u32],
-    rows: usize,
-    panel: Record,
-    asked: Operation,
+pub(crate) fn feed_list(
+    rows: &mut [Row],
+    count: &mut usize,
+    panel: &Record,
+    asked: Option<Operation>,
     feeds: bool,
-) -> usize
-    ensures { Listed words.old places.old words.new places.new result (rows_after panel feeds (operation_of asked) words.old places.old rows) }
+)
+    ensures { Listed (counted rows.old count.old) (counted rows.new count.new) (rows_after panel.now feeds (operation_of asked) (counted rows.old count.old)) }
 {
     if feeds {
-        let fed = feed(words, places, rows, panel.m, panel.k, asked);
-        return fed.count;
-    }
-    rows
-}
-
-// The notes after the call.
-#[tactic(auto, unfolding(crate::specs::Kept::fed_after, history::specs::Log::role_of, history::specs::Log::writing_after))]
-pub(crate) fn notes_now(
-    notes: Notes,
-    feeds: bool,
-    answer: CallAnswer,
-    call: Call,
-    frame: &[u8],
-) -> Notes
-    ensures { (call ≡ StartCommand → is_started (paper_call answer) ≡ true → frame_refusal frame.now ≡ 0) → NotesAfter notes feeds (paper_call answer) (role_of call frame.now (paper_call answer)) result }
-{
-    match call {
-        Call::StartLookup {
-            reader: _,
-            point: _,
-        } => notes,
-        Call::StartWalk { reader: _ } => notes,
-        Call::StepReader { reader: _ } => notes,
-        Call::StartPut { point, value } => begun(
-            notes,
-            answer,
-            Operation::Put {
-                point: point,
-                value: value,
-            },
-        ),
-        Call::StartChange { point, keep, flip } => begun(
-            notes,
-            answer,
-            Operation::Change {
-                point: point,
-                keep: keep,
-                flip: flip,
-            },
-        ),
-        Call::StartRemoval { point } => begun(notes, answer, Operation::Removal { point: point }),
-        Call::StartCommand => begun(notes, answer, commanded(frame)),
-        Call::StepWriter => stepped(notes, feeds, answer),
-        Call::Turn => turned(notes, feeds, answer),
+        let _ = feed(rows, count, panel.m, panel.k, asked);
     }
 }
 
-// A turn that serves the writer is its step; another leaves the notes.
-fn turned(notes: Notes, feeds: bool, answer: CallAnswer) -> Notes
-    ensures { NotesAfter notes feeds (paper_call answer) (served_role (served_by (paper_call answer))) result }
-{
-    if serves_writer(answer) {
-        return stepped(notes, feeds, answer);
+impl Notes {
+    // The notes after the call.
+    #[tactic(auto, unfolding(crate::specs::Kept::fed_after, history::specs::Log::role_of, history::specs::Log::writing_after))]
+    pub(crate) fn after(
+        self,
+        feeds: bool,
+        answer: Result<Given, Refusal>,
+        call: Call,
+        frame: &[u8],
+    ) -> Notes
+        ensures { (call ≡ StartCommand → is_started (paper_call answer) ≡ true → frame_refusal frame.now ≡ 0) → NotesAfter self feeds (paper_call answer) (role_of call frame.now (paper_call answer)) result }
+    {
+        match call {
+            Call::StartLookup { .. } => self,
+            Call::StartWalk { .. } => self,
+            Call::StepReader { .. } => self,
+            Call::StartPut { point, value } => {
+                self.begun(answer, Some(Operation::Put { point, value }))
+            }
+            Call::StartChange { point, keep, flip } => {
+                self.begun(answer, Some(Operation::Change { point, keep, flip }))
+            }
+            Call::StartRemoval { point } => self.begun(answer, Some(Operation::Removal { point })),
+            Call::StartCommand => self.begun(answer, commanded(frame)),
+            Call::StepWriter => self.stepped(feeds, answer),
+            Call::Turn => self.turned(feeds, answer),
+        }
     }
-    notes
-}
 
-// An operation that has been started is noted; a refused start leaves the notes.
-#[tactic(auto, unfolding(crate::specs::Kept::notes_begun))]
-fn begun(notes: Notes, answer: CallAnswer, operation: Operation) -> Notes
-    ensures { result ≡ notes_begun notes (is_started (paper_call answer)) operation }
-{
-    if is_started(answer) {
-        return Notes {
-            asked: operation,
-            fed: notes.fed,
-        };
+    // A turn that serves the writer is its step; another leaves the notes.
+    fn turned(self, feeds: bool, answer: Result<Given, Refusal>) -> Notes
+        ensures { NotesAfter self feeds (paper_call answer) (served_role (served_by (paper_call answer))) result }
+    {
+        if serves_writer(answer) {
+            self.stepped(feeds, answer)
+        } else {
+            self
+        }
     }
-    notes
-}
 
-// A step of the operation feeds the list or does not; of one that has ended nothing is noted.
-#[tactic(auto, unfolding(crate::specs::Kept::notes_stepped))]
-fn stepped(notes: Notes, feeds: bool, answer: CallAnswer) -> Notes
-    ensures { result ≡ notes_stepped notes feeds (has_ended (paper_call answer)) }
-{
-    if has_ended(answer) {
-        return Notes {
-            asked: Operation::Nothing,
-            fed: false,
-        };
+    // An operation that has been started is noted; a refused start leaves the notes.
+    #[tactic(auto, unfolding(crate::specs::Kept::notes_begun))]
+    fn begun(self, answer: Result<Given, Refusal>, asked: Option<Operation>) -> Notes
+        ensures { result ≡ notes_begun self (is_started (paper_call answer)) asked }
+    {
+        if is_started(answer) {
+            Notes { asked, ..self }
+        } else {
+            self
+        }
     }
-    let asked = notes.asked;
-    Notes {
-        asked: asked,
-        fed: either_holds(notes.fed, feeds),
+
+    // A step of the operation feeds the list or does not; of one that has ended nothing is noted.
+    #[tactic(auto, unfolding(crate::specs::Kept::notes_stepped))]
+    fn stepped(self, feeds: bool, answer: Result<Given, Refusal>) -> Notes
+        ensures { result ≡ notes_stepped self feeds (has_ended (paper_call answer)) }
+    {
+        if has_ended(answer) {
+            Notes::default()
+        } else {
+            Notes {
+                fed: either_holds(self.fed, feeds),
+                ..self
+            }
+        }
     }
 }
 
 // "a started command as its change": the change of the command that the frame is.
 #[tactic(auto, unfolding(history::specs::Log::as_change))]
-fn commanded(frame: &[u8]) -> Operation
+fn commanded(frame: &[u8]) -> Option<Operation>
     ensures { frame_refusal frame.now ≡ 0 → operation_of result ≡ as_change (sent_in frame.now) }
 {
     match frame::read(frame) {
-        ReadAnswer::Frame(_, fields) => change_of(fields.point, fields.action),
-        ReadAnswer::Refused(_) => Operation::Nothing,
+        Ok(read) => Some(change_of(read.fields.point, read.fields.action)),
+        Err(_) => None,
     }
 }
 
 fn change_of(point: u32, action: u32) -> Operation
-    ensures { operation_of result ≡ changeFed point (action_masks action).keep (action_masks action).flip }
+    ensures { operation_of (Some result) ≡ change_fed point (action_masks action).keep (action_masks action).flip }
 {
     let masks = action_masks(action);
     Operation::Change {
-        point: point,
+        point,
         keep: masks.keep,
         flip: masks.flip,
     }

@@ -2,81 +2,112 @@
 #![tactic(auto)]
 
 ghost use Rattle.std.specs.Prelude.{◌≡◌};
-ghost use Rattle.panel_and_list.specs.Kept.{opened_state, CallOnBoth};
+ghost use Rattle.panel_and_list.specs.Kept.{opened_state, Opened, CallOnBoth, apart};
 
 mod answer_kinds;
 mod kept_list;
 
-use answers::CallAnswer;
+use answers::{Given, Outcome};
 use calls::{Call, apply};
-use kept_list::{feeds_now, notes_now, rows_now};
-use plain_rows::Operation;
+use kept_list::{feed_list, feeds_now};
+use plain_rows::{Operation, Row, Rows};
 use record::Record;
+use refusal::Refusal;
 
 // What is noted of the writer's operation underway; where there is none, nothing is asked or fed.
-#[derive(Clone, Copy)]
+#[derive(Clone, Copy, Default)]
 pub struct Notes {
     // the arguments of the call that started it
-    pub asked: Operation,
+    pub asked: Option<Operation>,
     // it has fed the list
     pub fed: bool,
 }
 
-// The slots and the list's rows are lent beside it.
+// The slots and the list's entries are lent beside it.
 #[derive(Clone, Copy)]
-pub struct PanelState {
+pub struct LentState {
     pub panel: Record,
     pub notes: Notes,
     // how many rows the list has
-    pub rows: usize,
-}
-
-#[derive(Clone, Copy)]
-pub struct Carried {
-    pub state: PanelState,
-    pub answer: CallAnswer,
+    pub count: usize,
 }
 
 // A panel of which nothing was asked yet: the list has no row.
 #[tactic(auto, unfolding(crate::specs::Kept::opened_state))]
-pub fn opened(panel: Record) -> PanelState
+pub fn opened(panel: Record) -> LentState
     ensures { result ≡ opened_state panel }
 {
-    PanelState {
-        panel: panel,
-        notes: Notes {
-            asked: Operation::Nothing,
-            fed: false,
-        },
-        rows: 0,
+    LentState {
+        panel,
+        notes: Notes::default(),
+        count: 0,
     }
 }
 
 // Carries a call out, and feeds the list if the call feeds it: whatever list of calls led here, what is
 // kept is the plain list of the claim about all of them (`kept` in proofs/KeptLaws.antt).
 pub fn carry_out(
-    before: PanelState,
+    state: &mut LentState,
     slots: &mut [u64],
-    words: &mut [u64],
-    places: &mut [u32],
+    rows: &mut [Row],
     call: Call,
     frame: &[u8],
-) -> Carried
-    ensures { CallOnBoth before slots.old words.old places.old call frame.now result slots.new words.new places.new }
+) -> Result<Given, Refusal>
+    ensures { CallOnBoth state.old slots.old rows.old call frame.now state.new result slots.new rows.new }
 {
-    let panel = before.panel;
-    let notes = before.notes;
-    let asked = notes.asked;
-    let done = apply(panel, slots, call, frame);
-    let after = done.panel;
-    let answer = done.answer;
-    let feeds = feeds_now(panel, notes.fed, answer, call);
-    Carried {
-        state: PanelState {
-            panel: after,
-            notes: notes_now(notes, feeds, answer, call, frame),
-            rows: rows_now(words, places, before.rows, panel, asked, feeds),
-        },
-        answer: answer,
+    let done = apply(state.panel, slots, call, frame);
+    let feeds = feeds_now(&state.panel, state.notes.fed, done.answer, call);
+    feed_list(
+        rows,
+        &mut state.count,
+        &state.panel,
+        state.notes.asked,
+        feeds,
+    );
+    state.notes = state.notes.after(feeds, done.answer, call, frame);
+    state.panel = done.panel;
+    done.answer
+}
+
+// The slots are lent beside it, and the list is in an array of its own.
+#[derive(Drop)]
+pub struct PanelState<const N: usize> {
+    pub panel: Record,
+    pub notes: Notes,
+    pub list: Rows<N>,
+}
+
+impl<const N: usize> PanelState<N> {
+    // As `opened`, with a list that has no row.
+    pub fn opened(panel: Record) -> Self
+        ensures { Opened panel (apart result) result.list.rows }
+    {
+        let state = opened(panel);
+        PanelState {
+            panel: state.panel,
+            notes: state.notes,
+            list: Rows::new(),
+        }
+    }
+
+    // As `carry_out` does it, with the list's own entries.
+    pub fn carry_out(
+        &mut self,
+        slots: &mut [u64],
+        call: Call,
+        frame: &[u8],
+    ) -> Result<Given, Refusal>
+        ensures { CallOnBoth (apart self.old) slots.old self.old.list.rows call frame.now (apart self.new) result slots.new self.new.list.rows }
+    {
+        let mut state = LentState {
+            panel: self.panel,
+            notes: self.notes,
+            count: self.list.count,
+        };
+        let answer = carry_out(&mut state, slots, &mut self.list.rows, call, frame);
+        self.panel = state.panel;
+        self.notes = state.notes;
+        self.list.count = state.count;
+        answer
     }
 }

@@ -1,4 +1,4 @@
--- Where the slices have room, feeding is the plain list's own: room for one row more is enough; and a table of m slots that agrees with its list
+-- Where the array has room, feeding is the plain list's own: room for one row more is enough; and a table of m slots that agrees with its list
 -- needs no more than m entries, so that no panel of document 01 meets the refusal.
 use Prim.Native.Nat.{ℕ, zero, suc, ◌+◌, ◌<◌, ◌≤◌}
 use mathlib.Core.Bool.{Bool, true, false, cond, not}
@@ -6,7 +6,7 @@ use mathlib.Core.List.{List, [], ◌∷◌}
 use mathlib.Core.Logic.{◌⊎◌, inl, inr, ◌≢◌}
 use mathlib.Core.Path.{◌≡◌, refl}
 use native.Mathlib.Omega.{arith}
-use borrow.Author.Tests.{not-true}
+use borrow.Author.Tests.{not-true, le-leb}
 use lib.Bits.{bit_and, bit_xor}
 use lib.Dec.{eqb}
 use lib.ListN.{length, get_or}
@@ -17,10 +17,10 @@ use Rattle.slot_words.proofs.TakenLaws.{taken_high, taken_room}
 use Rattle.plain_list.specs.PlainList.{Rows, Entry, absent, present, entry_of, without, is_place, lowest, first_free, add_row, put_entry, put_row, change_entry, change_row, remove_entry, remove_row, Operation, nothing, put, change, removal, feed}
 use Rattle.plain_list.proofs.Agreement.{Agrees}
 use Rattle.plain_list.proofs.RowLaws.{value_length, At, found_place}
-use Rattle.plain_rows.specs.Rows.{rows_of, Room}
-use Rattle.plain_rows.specs.Fed.{answered, fed_rows}
-use Rattle.plain_rows.proofs.RowsLaws.{rows_length}
-use Rattle.plain_rows.proofs.FedLaws.{in_room}
+use Rattle.conditions.specs.Conditions.{both}
+use Rattle.plain_rows.specs.Rows.{RowsHeld, listed}
+use Rattle.plain_rows.specs.Fed.{answered, if_room, in_room, fed_rows}
+use Rattle.plain_rows.proofs.RowsLaws.{below_length}
 
 without_high : (q : ℕ) (rows : Rows) → length (without q rows) ≤ length rows
 unfolding without
@@ -84,22 +84,27 @@ module _ (m k n : ℕ) (rows : Rows) (few : length rows ≤ n) (fewer : (q : ℕ
   fed_high (change q keep flip) = change_high q keep flip (entry_of q rows)
   fed_high (removal q) = removal_high q (entry_of q rows)
 
-module _ (m k : ℕ) (words places : List ℕ) (count : ℕ) (operation : Operation) where
-  -- slices of n entries or more, and a list that keeps to n rows
-  within_room : (n : ℕ) → Room words places n → count ≤ n → length (feed m k operation (rows_of words places count)).rows ≤ n → fed_rows m k operation words places count ≡ answered (feed m k operation (rows_of words places count))
-  unfolding fed_rows
-  within_room n room before after =
-      let part : (i : ℕ) → i ≤ n → Room words places i = λ i h. record { in_words = omega (arith, room.in_words); in_places = omega (arith, room.in_places) } in
-      in_room words places count (part count before) (feed m k operation (rows_of words places count)) (part (length (feed m k operation (rows_of words places count)).rows) after)
+module _ (m k : ℕ) (list : RowsHeld) (operation : Operation) where
+  -- an array of so many entries or more, and a list that keeps to so many rows
+  within_room : (high : ℕ) → high ≤ length list.rows → list.count ≤ high → length (feed m k operation (listed list)).rows ≤ high → fed_rows m k operation list ≡ answered (feed m k operation (listed list))
+  unfolding fed_rows in_room if_room both
+  within_room high room before after =
+      rw
+      (le-leb list.count (length list.rows) (omega arith), le-leb (length (feed m k operation (listed list)).rows) (length list.rows) (omega arith))
 
-  pub fed_with_room : Room words places (count + 1) → fed_rows m k operation words places count ≡ answered (feed m k operation (rows_of words places count))
+  pub fed_with_room : list.count + 1 ≤ length list.rows → fed_rows m k operation list ≡ answered (feed m k operation (listed list))
   fed_with_room room =
-      let size = rows_length words places count in
-      within_room (count + 1) room (omega arith) (fed_high m k (count + 1) (rows_of words places count) (omega arith) (λ q h. omega arith) operation)
+      let size = below_length list.rows list.count in
+      within_room (list.count + 1) room (omega arith) (fed_high m k (list.count + 1) (listed list) (omega arith) (λ q h. omega arith) operation)
 
-  pub fed_by_panel : (reach : ℕ) (counts slots : List ℕ) → Agrees m k reach counts slots (rows_of words places count) → m ≤ length words → m ≤ length places → fed_rows m k operation words places count ≡ answered (feed m k operation (rows_of words places count))
-  fed_by_panel reach counts slots agrees w p =
-      let rows = rows_of words places count in
-      let size = rows_length words places count in
+  -- a table's own list has no more rows than the table has slots
+  pub few_rows : (reach : ℕ) (counts slots : List ℕ) → Agrees m k reach counts slots (listed list) → list.count ≤ m
+  few_rows reach counts slots agrees =
+      omega (arith, below_length list.rows list.count, agrees.room, agrees.whole, taken_high slots)
+
+  pub fed_by_panel : (reach : ℕ) (counts slots : List ℕ) → Agrees m k reach counts slots (listed list) → m ≤ length list.rows → fed_rows m k operation list ≡ answered (feed m k operation (listed list))
+  fed_by_panel reach counts slots agrees room =
+      let rows = listed list in
+      let size = below_length list.rows list.count in
       let few : length rows ≤ m = omega (arith, agrees.room, agrees.whole, taken_high slots) in
-      within_room m (record { in_words = w; in_places = p }) (omega arith) (fed_high m k m rows few (free_room m k reach counts slots rows agrees) operation)
+      within_room m room (omega arith) (fed_high m k m rows few (free_room m k reach counts slots rows agrees) operation)

@@ -1,164 +1,101 @@
 // What each operation makes of the rows, and what the list answers. The caller has judged that the
-// slices hold the rows.
-ghost use Rattle.std.specs.Prelude.{◌≡◌};
-ghost use Rattle.answers.specs.Answers.{placed as placed_at, ended_with, refused, paper_ending, paper_whole};
-ghost use Rattle.plain_list.specs.PlainList.{index_of, add_row, put_row, change_row, remove_row};
-ghost use Rattle.plain_rows.specs.Rows.{rows_of, Room};
-ghost use Rattle.plain_rows.specs.Fed.{list_answer, in_slices, Feeds};
+// entries hold the rows.
+ghost use Rattle.std.specs.Prelude.{◌≡◌, ◌≤◌, Some, length};
+ghost use Rattle.answers.specs.Answers.{placed as placed_at, paper_ending};
+ghost use Rattle.plain_list.specs.PlainList.{index_of, feed, put_row, change_row, remove_row};
+ghost use Rattle.plain_rows.specs.Rows.{rows_of, counted, held};
+ghost use Rattle.plain_rows.specs.Fed.{operation_of, Tells, Puts};
 
-use crate::Fed;
 use crate::indices::{first_free, index_of, largest_index};
-use crate::rows::{Entry, entry_of, with_value, without};
-use answers::{Completion, Ending, Spot, WholeAnswer};
-use conditions::both_hold;
+use crate::search::{entry_of, with_value, without};
+use crate::{Operation, Row};
+use answers::{Ending, Spot};
 use hash::position;
 use refusal::Refusal;
-use slot_words::word::word_of;
+use slot_words::word::{value_of, word_of};
 
-// What the list answers: it takes no step.
-fn list_answer(ending: Ending) -> WholeAnswer
-    ensures { paper_whole result ≡ list_answer (paper_ending ending) }
+// The point has its row at the place: the place with its index.
+fn placed(m: u32, k: u32, point: u32, place: u32) -> Ending
+    ensures { paper_ending result ≡ placed_at place (index_of m k point place) }
 {
-    WholeAnswer::Ended(Completion {
-        ending: ending,
-        steps: 0,
+    Ending::Placed(Spot {
+        slot: place,
+        index: index_of(m, k, point, place),
     })
 }
 
-// A slice is too short: as many rows as before, and refusal 1.
-pub(crate) fn misfit(count: usize) -> Fed
-    ensures { (result.count ≡ count) × (paper_whole result.answer ≡ refused 1) }
+#[tactic(auto, unfolding(plain_list::specs::PlainList::feed))]
+pub(crate) fn carry_out(
+    rows: &mut [Row],
+    count: &mut usize,
+    m: u32,
+    k: u32,
+    operation: Operation,
+) -> Result<Ending, Refusal>
+    requires { count.old ≤ length rows.old }
+    ensures { Puts (counted rows.old count.old) (counted rows.new count.new) result (feed m k (operation_of (Some operation)) (rows_of (held (counted rows.old count.old)))) }
 {
-    Fed {
-        count: count,
-        answer: WholeAnswer::Refused(Refusal::Misfit),
+    match operation {
+        Operation::Put { point, value } => put(rows, count, m, k, point, value),
+        Operation::Change { point, keep, flip } => Ok(change(rows, count, point, keep, flip)),
+        Operation::Removal { point } => Ok(remove(rows, count, m, k, point)),
     }
 }
 
-// No row of the point: as many rows as before, and refusal 7.
-pub(crate) fn unknown(count: usize) -> Fed
-    ensures { (result.count ≡ count) × (paper_whole result.answer ≡ list_answer (ended_with 7)) }
-{
-    Fed {
-        count: count,
-        answer: list_answer(Ending::Unknown),
-    }
-}
-
-// The point has its row at the place: `count` rows now, and the place with its index.
-fn placed(count: usize, m: u32, k: u32, point: u32, place: u32) -> Fed
-    ensures { (result.count ≡ count) × (paper_whole result.answer ≡ list_answer (placed_at place (index_of m k point place))) }
-{
-    Fed {
-        count: count,
-        answer: list_answer(Ending::Placed(Spot {
-            slot: place,
-            index: index_of(m, k, point, place),
-        })),
-    }
-}
-
-#[tactic(auto, unfolding(plain_list::specs::PlainList::put_entry, plain_list::specs::PlainList::put_row))]
-pub(crate) fn put_row(
-    words: &mut [u64],
-    places: &mut [u32],
-    count: usize,
+fn put(
+    rows: &mut [Row],
+    count: &mut usize,
     m: u32,
     k: u32,
     point: u32,
     value: u32,
-) -> Fed
-    requires { Room words.old places.old count }
-    ensures { Feeds words.old places.old words.new places.new result (in_slices words.old places.old count (put_row m k point value (rows_of words.old places.old count))) }
+) -> Result<Ending, Refusal>
+    requires { count.old ≤ length rows.old }
+    ensures { Puts (counted rows.old count.old) (counted rows.new count.new) result (put_row m k point value (rows_of (held (counted rows.old count.old)))) }
 {
-    match entry_of(words, places, count, point) {
-        Entry::Absent => {
-            let index = first_free(places, count, m, k, point);
-            add_row(words, places, count, m, k, point, value, index)
-        }
-        Entry::Present { value: _, place } => {
-            with_value(words, count, point, value);
-            placed(count, m, k, point, place)
-        }
+    let before = *count;
+    if let Some(row) = entry_of(&rows[..before], point) {
+        with_value(&mut rows[..before], point, value);
+        return Ok(placed(m, k, point, row.place));
     }
-}
-
-// Adds the row, at the point's position of that index; index 0 means that no position is free.
-#[tactic(auto, unfolding(plain_list::specs::PlainList::add_row))]
-fn add_row(
-    words: &mut [u64],
-    places: &mut [u32],
-    count: usize,
-    m: u32,
-    k: u32,
-    point: u32,
-    value: u32,
-    index: u32,
-) -> Fed
-    requires { Room words.old places.old count }
-    ensures { Feeds words.old places.old words.new places.new result (in_slices words.old places.old count (add_row m k point value (rows_of words.old places.old count) index)) }
-{
+    let index = first_free(&rows[..before], m, k, point);
     if index == 0 {
-        return Fed {
-            count: count,
-            answer: list_answer(Ending::NoPerch),
-        };
+        return Ok(Ending::NoPerch);
     }
-    if !both_hold(count < words.len(), count < places.len()) {
-        return misfit(count);
+    if before == rows.len() {
+        return Err(Refusal::Misfit);
     }
     let place = position(m, point, index);
-    words[count] = word_of(point, value);
-    places[count] = place;
-    placed(count + 1, m, k, point, place)
+    rows[before] = Row {
+        word: word_of(point, value),
+        place,
+    };
+    *count = before + 1;
+    Ok(placed(m, k, point, place))
 }
 
-#[tactic(auto, unfolding(plain_list::specs::PlainList::change_entry, plain_list::specs::PlainList::change_row))]
-pub(crate) fn change_row(
-    words: &mut [u64],
-    places: &mut [u32],
-    count: usize,
-    point: u32,
-    keep: u32,
-    flip: u32,
-) -> Fed
-    requires { Room words.old places.old count }
-    ensures { Feeds words.old places.old words.new places.new result (in_slices words.old places.old count (change_row point keep flip (rows_of words.old places.old count))) }
+fn change(rows: &mut [Row], count: &mut usize, point: u32, keep: u32, flip: u32) -> Ending
+    requires { count.old ≤ length rows.old }
+    ensures { Tells (counted rows.old count.old) (counted rows.new count.new) result (change_row point keep flip (rows_of (held (counted rows.old count.old)))) }
 {
-    match entry_of(words, places, count, point) {
-        Entry::Absent => unknown(count),
-        Entry::Present { value, place: _ } => {
-            let new = (value & keep) ^ flip;
-            with_value(words, count, point, new);
-            Fed {
-                count: count,
-                answer: list_answer(Ending::Changed(new)),
-            }
-        }
-    }
+    let before = *count;
+    let Some(row) = entry_of(&rows[..before], point) else {
+        return Ending::Unknown;
+    };
+    let new = (value_of(row.word) & keep) ^ flip;
+    with_value(&mut rows[..before], point, new);
+    Ending::Changed(new)
 }
 
-#[tactic(auto, unfolding(plain_list::specs::PlainList::remove_entry, plain_list::specs::PlainList::remove_row))]
-pub(crate) fn remove_row(
-    words: &mut [u64],
-    places: &mut [u32],
-    count: usize,
-    m: u32,
-    k: u32,
-    point: u32,
-) -> Fed
-    requires { Room words.old places.old count }
-    ensures { Feeds words.old places.old words.new places.new result (in_slices words.old places.old count (remove_row m k point (rows_of words.old places.old count))) }
+fn remove(rows: &mut [Row], count: &mut usize, m: u32, k: u32, point: u32) -> Ending
+    requires { count.old ≤ length rows.old }
+    ensures { Tells (counted rows.old count.old) (counted rows.new count.new) result (remove_row m k point (rows_of (held (counted rows.old count.old)))) }
 {
-    match entry_of(words, places, count, point) {
-        Entry::Absent => unknown(count),
-        Entry::Present { value: _, place: _ } => {
-            let left = without(words, places, count, point);
-            let reach = largest_index(words, places, left, m, k);
-            Fed {
-                count: left,
-                answer: list_answer(Ending::Removed(reach)),
-            }
-        }
-    }
+    let before = *count;
+    let Some(_) = entry_of(&rows[..before], point) else {
+        return Ending::Unknown;
+    };
+    let left = without(&mut rows[..before], point);
+    *count = left;
+    Ending::Removed(largest_index(&rows[..left], m, k))
 }

@@ -1,5 +1,6 @@
 -- A put's step, where the table agrees with a plain list: it goes on as it should, or ends with the answer that the plain list gives to the put, fed in the step
 -- that stores the slot or, where none is stored, in the last. The reach is raised before the slot is stored, so no lookup that begins in between misses a row.
+use Rattle.std.specs.Prelude.{Some, None}
 use Prim.Native.Nat.{ℕ, zero, suc, ◌+◌, ◌≤◌, ◌<◌}
 use mathlib.Core.Bool.{Bool, true, false, cond}
 use mathlib.Core.Path.{◌≡◌, refl, sym, ap, subst, ◌∙◌}
@@ -34,7 +35,6 @@ use Rattle.search.specs.declared.access.ReadAccess.{ReadAccess}
 use Rattle.search.specs.declared.access.ReadAccess.TheVariants.{Slot}
 use Rattle.search.specs.declared.Searched.{Searched}
 use Rattle.search.specs.declared.Searched.TheVariants.{Going, Answered}
-use Rattle.search.specs.declared.SearchAnswer.TheVariants.{Found as SearchAnswer-as-Found, Unknown}
 use Rattle.search.specs.Access.{word_read}
 use Rattle.search.specs.Search.{search_access, search_advance}
 use Rattle.search.proofs.TrailLaws.{Knows, search_knows}
@@ -74,8 +74,8 @@ module _ (panel : Record) (slots : List ℕ) (rows : Rows) (put : Put) (agrees :
   searched : (read : ReadAccess) (after : Searched) → Tight m k panel.reach rows → Knows (entry_of q rows ≡ absent) m k q rows after → StepOK panel slots (Read read) (put_searched put after) rows (put_row m k q put.value rows) (Putting put)
   unfolding put_searched put_answered
   searched read (Going search) tight h = on_stage read (Searching search) (h, tight)
-  searched read (Answered (SearchAnswer-as-Found place)) tight h = on_stage read (PutStage-as-Found place) (standing m k q rows place h, tight)
-  searched read (Answered Unknown) tight h = on_stage read (Scanning 1) (record { none = h; taken = λ j a b. absurd (omega arith) }, tight)
+  searched read (Answered (Some place)) tight h = on_stage read (PutStage-as-Found place) (standing m k q rows place h, tight)
+  searched read (Answered None) tight h = on_stage read (Scanning 1) (record { none = h; taken = λ j a b. absurd (omega arith) }, tight)
 
   abbrev word_at : ℕ → ℕ
   word_at index = get_or slots (position_of m q index) 0

@@ -1,5 +1,6 @@
 -- Laws of a put's step: it goes on in range or ends, and takes one of the steps that are left; so a put takes at most 2k + 2;
 -- it updates the reach in the step whose access stores it, and touches one of the slots lent.
+use Rattle.std.specs.Prelude.{Some, None}
 use Prim.Native.Nat.{ℕ, ◌+◌, ◌-◌, ◌≤◌, ◌<◌}
 use mathlib.Core.Path.{◌≡◌, refl, ap, ◌∙◌}
 use mathlib.Core.Bool.{Bool, true, false, cond}
@@ -20,7 +21,6 @@ use Rattle.counting.specs.declared.steps.OperationKind.TheVariants.{Put as Kind-
 use Rattle.work_ranges.specs.WorkRanges.{steps_in_range, put_stage_in_range, put_in_range, writer_in_range}
 use Rattle.search.specs.declared.Searched.{Searched}
 use Rattle.search.specs.declared.Searched.TheVariants.{Going, Answered}
-use Rattle.search.specs.declared.SearchAnswer.TheVariants.{Found as SearchAnswer-as-Found, Unknown}
 use Rattle.answers.specs.Answers.{placed, ended_with, continues}
 use Rattle.slot_words.specs.Word.{word_of}
 use Rattle.search.specs.Search.{search_advance}
@@ -47,8 +47,8 @@ module _ (k reach place : ℕ) (put : Put) (low : 1 ≤ k) (valid : valid_point 
   searched : (left : ℕ) (after : Searched) → OneStep k left after → OneEffect k reach place (left + (k + 1 + raising reach k)) (put_searched put after)
   unfolding put_searched put_answered put_stage_in_range put_left searched_in_range searched_left answer_in_range
   searched left (Going search) s = at_stage _ (Searching search) s.fits (omega (arith, search_left_lem k reach search, s.less))
-  searched left (Answered (SearchAnswer-as-Found place)) s = at_stage _ (PutStage-as-Found place) s.fits (omega (arith, s.less))
-  searched left (Answered Unknown) s = at_stage _ (Scanning 1) (is_within 1 1 k (omega arith) low) (omega (arith, s.less))
+  searched left (Answered (Some place)) s = at_stage _ (PutStage-as-Found place) s.fits (omega (arith, s.less))
+  searched left (Answered None) s = at_stage _ (Scanning 1) (is_within 1 1 k (omega arith) low) (omega (arith, s.less))
 
   scanned : (index word : ℕ) → within 1 index k ≡ true → OneEffect k reach place (k - index + 1 + (1 + raising reach k)) (put_scanned k put index word)
   unfolding put_scanned ends put_stage_in_range put_left writer_in_range update_in_range writer_left
@@ -105,8 +105,8 @@ module _ (m k reach slot : ℕ) (put : Put) (word : ℕ) where
   searched_reach : (after : Searched) → reach_after reach (put_searched put after).update ≡ reach
   unfolding put_searched put_answered put_at going_on
   searched_reach (Going search) = refl
-  searched_reach (Answered (SearchAnswer-as-Found place)) = refl
-  searched_reach (Answered Unknown) = refl
+  searched_reach (Answered (Some place)) = refl
+  searched_reach (Answered None) = refl
 
   scanned_reach : (index : ℕ) → reach_after reach (put_scanned k put index word).update ≡ reach
   unfolding put_scanned put_at going_on ends

@@ -1,5 +1,6 @@
 -- Document 01, "Steps": a put. Where it compares an index with the reach, "the record's own reach at that step is meant".
-use Rattle.std.specs.Prelude.{ℕ, ◌+◌, Bool, cond, ltb, eqb}
+use Rattle.record.specs.declared.Place.{Place}
+use Rattle.std.specs.Prelude.{ℕ, ◌+◌, Bool, cond, ltb, eqb, Option, Some, None}
 use Rattle.hash.specs.Position.{position_of}
 use Rattle.record.specs.declared.Put.{Put}
 use Rattle.record.specs.declared.PutStage.{PutStage}
@@ -8,8 +9,6 @@ use Rattle.record.specs.declared.WriterWork.TheVariants.{Putting}
 use Rattle.search.specs.declared.access.ReadAccess.TheVariants.{Slot}
 use Rattle.search.specs.declared.Searched.{Searched}
 use Rattle.search.specs.declared.Searched.TheVariants.{Going, Answered}
-use Rattle.search.specs.declared.SearchAnswer.{SearchAnswer}
-use Rattle.search.specs.declared.SearchAnswer.TheVariants.{Found as SearchAnswer-as-Found, Unknown}
 use Rattle.answers.specs.Answers.{placed, ended_with, continues}
 use Rattle.slot_words.specs.Word.{word_of}
 use Rattle.search.specs.Search.{search_access, search_advance}
@@ -40,9 +39,9 @@ unfoldable pub put_at : Put → PutStage → WriterEffect
 put_at put stage = going_on (Putting (record { point = put.point; value = put.value; stage = stage; steps = put.steps }))
 
 -- "If found, store the new word there. If not, read positions 1 to k"
-unfoldable pub put_answered : Put → SearchAnswer → WriterEffect
-put_answered put (SearchAnswer-as-Found place) = put_at put (PutStage-as-Found place)
-put_answered put Unknown = put_at put (Scanning 1)
+unfoldable pub put_answered : Put → Option Place → WriterEffect
+put_answered put (Some place) = put_at put (PutStage-as-Found place)
+put_answered put None = put_at put (Scanning 1)
 
 -- "search as a lookup does"
 unfoldable pub put_searched : Put → Searched → WriterEffect

@@ -4,14 +4,14 @@
 
 ghost use Rattle.std.specs.Prelude.{◌≡◌};
 ghost use Rattle.effects.specs.Effects.{paper_effect};
-ghost use Rattle.put.specs.Put.{put_access, put_at, put_searched, put_answered, put_scanned, put_takes, put_advance};
+ghost use Rattle.put.specs.Put.{put_access, put_at, put_answered, put_scanned, put_takes, put_advance};
 
-use answers::{Ending, Progress, Spot};
+use answers::{Ending, Spot};
 use effects::memory::{WriterAccess, store_word};
 use effects::update::{Effect, Update, ended, underway};
-use record::{Put, PutStage, WriterWork};
+use record::{Place, Put, PutStage, WriterWork};
 use search::access::ReadAccess;
-use search::{SearchAnswer, Searched, search_access, search_advance};
+use search::{Searched, search_access, search_advance};
 use slot_words::word::word_of;
 
 // Part 1: the access that comes next.
@@ -21,8 +21,7 @@ pub fn put_access(put: Put, m: u32, reach: u32) -> WriterAccess
 {
     let point = put.point;
     let word = word_of(point, put.value);
-    let stage = put.stage;
-    match stage {
+    match put.stage {
         PutStage::Searching(search) => WriterAccess::Read(search_access(search, point, m)),
         PutStage::Scanning(index) => {
             WriterAccess::Read(ReadAccess::Slot(hash::position(m, point, index)))
@@ -39,22 +38,19 @@ pub fn put_access(put: Put, m: u32, reach: u32) -> WriterAccess
 }
 
 // Part 3: what follows from the reach, from the word read, or from the slot stored.
-#[tactic(auto, unfolding(crate::specs::Put::put_advance, crate::specs::Put::put_stage_advance))]
+#[tactic(auto, unfolding(crate::specs::Put::put_advance, crate::specs::Put::put_searched, crate::specs::Put::put_stage_advance))]
 pub fn put_advance(put: Put, k: u32, reach: u32, slot: u32, word: u64) -> Effect
     ensures { paper_effect result ≡ put_advance k reach slot put word }
 {
-    let stage = put.stage;
-    match stage {
-        PutStage::Searching(search) => {
-            put_searched(put, search_advance(search, put.point, reach, word))
-        }
+    match put.stage {
+        PutStage::Searching(search) => match search_advance(search, put.point, reach, word) {
+            Searched::Going(search) => put_at(put, PutStage::Searching(search)),
+            Searched::Answered(answer) => put_answered(put, answer),
+        },
         PutStage::Scanning(index) => put_scanned(put, k, index, word),
         PutStage::Found(place) => {
-            let spot = Spot {
-                slot: slot,
-                index: place.index,
-            };
-            ended(Update::Nothing, Ending::Placed(spot))
+            let index = place.index;
+            ended(Update::Nothing, Ending::Placed(Spot { slot, index }))
         }
         PutStage::Chosen(index) => put_takes(put, reach, slot, index),
     }
@@ -65,30 +61,15 @@ pub fn put_advance(put: Put, k: u32, reach: u32, slot: u32, word: u64) -> Effect
 fn put_at(put: Put, stage: PutStage) -> Effect
     ensures { paper_effect result ≡ put_at put stage }
 {
-    underway(WriterWork::Putting(Put {
-        point: put.point,
-        value: put.value,
-        stage: stage,
-        steps: put.steps,
-    }))
-}
-
-#[tactic(auto, unfolding(crate::specs::Put::put_searched))]
-fn put_searched(put: Put, searched: Searched) -> Effect
-    ensures { paper_effect result ≡ put_searched put searched }
-{
-    match searched {
-        Searched::Going(search) => put_at(put, PutStage::Searching(search)),
-        Searched::Answered(answer) => put_answered(put, answer),
-    }
+    underway(WriterWork::Putting(Put { stage, ..put }))
 }
 
 // What the search's answer leads to.
 #[tactic(auto, unfolding(crate::specs::Put::put_answered))]
-pub fn put_answered(put: Put, answer: SearchAnswer) -> Effect
+pub fn put_answered(put: Put, answer: Option<Place>) -> Effect
     ensures { paper_effect result ≡ put_answered put answer }
 {
-    let SearchAnswer::Found(place) = answer else {
+    let Some(place) = answer else {
         return put_at(put, PutStage::Scanning(1));
     };
     put_at(put, PutStage::Found(place))
@@ -100,13 +81,12 @@ fn put_scanned(put: Put, k: u32, index: u32, word: u64) -> Effect
     ensures { paper_effect result ≡ put_scanned k put index word }
 {
     if word == 0 {
-        return put_at(put, PutStage::Chosen(index));
+        put_at(put, PutStage::Chosen(index))
+    } else if index < k {
+        put_at(put, PutStage::Scanning(index + 1))
+    } else {
+        ended(Update::Nothing, Ending::NoPerch)
     }
-    if index < k {
-        let next = index + 1;
-        return put_at(put, PutStage::Scanning(next));
-    }
-    ended(Update::Nothing, Ending::NoPerch)
 }
 
 // The first empty position is taken: the reach first, where the index exceeds it.
@@ -115,15 +95,12 @@ fn put_takes(put: Put, reach: u32, slot: u32, index: u32) -> Effect
     ensures { paper_effect result ≡ put_takes reach slot put index }
 {
     if reach < index {
-        return Effect {
+        Effect {
             work: WriterWork::Putting(put),
             update: Update::Reach(index),
-            progress: Progress::Underway,
-        };
+            progress: None,
+        }
+    } else {
+        ended(Update::Counted(index), Ending::Placed(Spot { slot, index }))
     }
-    let spot = Spot {
-        slot: slot,
-        index: index,
-    };
-    ended(Update::Counted(index), Ending::Placed(spot))
 }

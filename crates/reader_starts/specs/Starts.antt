@@ -1,5 +1,5 @@
 -- Document 01, "Steps": starting a reader's lookup or walk; "starting an operation takes no step".
-use Rattle.std.specs.Prelude.{ℕ, Bool, not, List, ltb, length}
+use Rattle.std.specs.Prelude.{ℕ, Bool, not, List, ltb, length, Option, Some, None, ⊤}
 use Rattle.refusal.specs.Judging.{refuse_if}
 use Rattle.record.specs.declared.Record.{Record}
 use Rattle.record.specs.declared.ReaderWork.{ReaderWork}
@@ -8,10 +8,10 @@ use Rattle.record.specs.declared.Search.TheVariants.{Unread}
 use Rattle.record.specs.Parts.{work_of, with_work}
 use Rattle.record_ranges.specs.Ranges.{in_range}
 use Rattle.slot_words.specs.Points.{valid_point}
-use Rattle.answers.specs.Answers.{started, Outcome, outcome, unless_refused, paper_start}
+use Rattle.answers.specs.Answers.{started, Outcome, outcome, unless_refused}
 use Rattle.record.specs.Idle.{is_reader_idle}
-use Rattle.reader_step.specs.Reader.{ReaderEffect, effect_of}
-use Rattle.reader_starts.specs.declared.StartedReader.{StartedReader}
+use Rattle.reader_step.specs.Reader.{ReaderEffect, effect_of, paper_after}
+use Rattle.reader_step.specs.declared.ReaderAfter.{ReaderAfter}
 
 -- "starting a lookup 1, 3, 2, 4", of a reader with this work, by whether the record is in range
 unfoldable pub lookup_work_refusal : Bool → ℕ → ℕ → ReaderWork → ℕ
@@ -30,6 +30,11 @@ walk_work_refusal fits reader work = refuse_if (not fits) 1 (refuse_if (ltb 15 r
 -- the same, of a reader of this record
 unfoldable pub walk_refusal : ℕ → Record → ℕ → ℕ
 walk_refusal lent panel reader = walk_work_refusal (in_range lent panel) reader (work_of panel reader)
+
+-- a start by the point that it names: a lookup, or a walk, which names none
+abbrev pub start_refusal : Bool → ℕ → Option ℕ → ReaderWork → ℕ
+start_refusal fits reader (Some point) work = lookup_work_refusal fits reader point work
+start_refusal fits reader None work = walk_work_refusal fits reader work
 
 -- a lookup of a point that has read nothing yet
 abbrev pub new_lookup : ℕ → ReaderWork
@@ -53,8 +58,8 @@ unfoldable pub start_walk : Record → List ℕ → ℕ → Outcome
 start_walk panel slots reader = start_reader (walk_refusal (length slots) panel reader) panel slots reader new_walk
 
 -- a reader's work and the answer, after a start
-abbrev pub paper_started : StartedReader → ReaderEffect
-paper_started after = record { work = after.reader.work; answer = paper_start after.answer }
+abbrev pub paper_started : ReaderAfter ⊤ → ReaderEffect
+paper_started = paper_after (λ (_ : ⊤). started)
 
 -- a reader with this work is given new work, unless the call is refused with that number
 unfoldable pub given_work : ℕ → ReaderWork → ReaderWork → ReaderEffect

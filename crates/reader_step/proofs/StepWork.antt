@@ -1,20 +1,39 @@
 -- A reader's call by what it needs is the call on the whole record: of the reader's work, and in the place of that work.
 use Prim.Native.Nat.{ℕ, zero, suc}
-use mathlib.Core.Path.{◌≡◌, refl, ◌∙◌, ap}
+use mathlib.Core.Path.{◌≡◌, refl, ◌∙◌, sym, ap}
 use mathlib.Core.Bool.{Bool, true, false, not}
 use mathlib.Core.List.{List}
 use lib.Dec.{ltb}
 use lib.ListN.{get_or, set, length}
+use Rattle.std.specs.Prelude.{Result, Ok, Err, ⊤}
+use Rattle.std.specs.Result.{MatchResult, IsOkAnd}
+use Rattle.refusal.specs.declared.Refusal.{Refusal}
+use Rattle.refusal.specs.Refusals.{paper_judged}
 use Rattle.refusal.specs.Judging.{refuse_if}
+use Rattle.record.specs.declared.Reader.{Reader}
 use Rattle.record.specs.declared.Record.{Record}
 use Rattle.record.specs.declared.ReaderWork.{ReaderWork}
 use Rattle.record.specs.Parts.{idle_reader, reader_with, work_of, with_readers, with_work, reader_place}
 use Rattle.record.specs.Idle.{is_reader_idle}
 use Rattle.record.proofs.WorkLaws.{same_work, reader_place_known}
 use Rattle.record_ranges.specs.Ranges.{in_range}
-use Rattle.answers.specs.Answers.{Outcome, outcome, refused, unless_refused}
+use Rattle.answers.specs.Answers.{Answer, Outcome, outcome, refused, unless_refused}
+use Rattle.answers.proofs.AnswerLaws.{refused_call, allowed_call}
+use Rattle.reader_step.specs.declared.Effect.{Effect}
 use Rattle.counting.specs.Steps.{reader_counted}
-use Rattle.reader_step.specs.Reader.{ReaderEffect, effect_of, work_refusal, step_refusal, work_runs, step_work, after_step, reader_runs, step_judged, step_reader}
+use Rattle.reader_step.specs.Reader.{ReaderEffect, effect_of, reader_left, paper_after, work_refusal, step_refusal, work_runs, step_work, after_step, reader_runs, step_judged, step_reader}
+
+-- a reader's call by its verdict: refused, or carried out
+pub by_verdict :
+    {A : Type 0} (paper : A → Answer) (found : Reader) (done : ReaderEffect)
+    (judged : Result ⊤ Refusal) (made : Result (Effect A) Refusal)
+    → MatchResult judged (λ _. IsOkAnd made (λ effect. effect_of effect.work (paper effect.result) ≡ done)) (λ r. made ≡ Err r)
+    → paper_after paper (reader_left found made) ≡ unless_refused (paper_judged judged) (effect_of found.work) done
+by_verdict paper found done (Ok _) (Ok effect) given = given ∙ sym (allowed_call (effect_of found.work) done)
+by_verdict paper found done (Ok _) (Err r) given = absurd given
+by_verdict {A = A} paper found done (Err r) made left =
+    ap (λ (m : Result (Effect A) Refusal). paper_after paper (reader_left found m)) left
+    ∙ sym (refused_call (effect_of found.work) done r)
 
 module _ (panel : Record) (slots : List ℕ) (reader : ℕ) where
   -- a refused call leaves the work, and so the record

@@ -1,24 +1,26 @@
 -- Document 01, "Steps", and request N2: a reader's step of a lookup or of a walk.
-use Rattle.std.specs.Prelude.{ℕ, ◌+◌, Bool, cond, not, List, ltb, length}
+use Rattle.record.specs.declared.Place.{Place}
+use Rattle.std.specs.Prelude.{ℕ, ◌+◌, Bool, cond, not, List, ltb, length, Option, Some, None, Result, Ok, Err}
 use Rattle.refusal.specs.Judging.{refuse_if}
+use Rattle.refusal.specs.declared.Refusal.{Refusal}
+use Rattle.answers.specs.declared.StepResult.{StepResult}
+use Rattle.record.specs.declared.Reader.{Reader}
 use Rattle.record.specs.declared.Record.{Record}
 use Rattle.record.specs.declared.Lookup.{Lookup}
 use Rattle.record.specs.declared.Walk.{Walk}
 use Rattle.record.specs.declared.ReaderWork.{ReaderWork}
 use Rattle.record.specs.declared.ReaderWork.TheVariants.{Idle, LookingUp, Walking}
-use Rattle.record.specs.Parts.{work_of, with_work}
+use Rattle.record.specs.Parts.{reader_with, work_of, with_work}
 use Rattle.record.specs.Idle.{is_reader_idle}
 use Rattle.record_ranges.specs.Ranges.{in_range}
 use Rattle.search.specs.declared.access.ReadAccess.{ReadAccess}
 use Rattle.search.specs.declared.access.ReadAccess.TheVariants.{Nothing, Slot}
 use Rattle.search.specs.declared.Searched.{Searched}
 use Rattle.search.specs.declared.Searched.TheVariants.{Going, Answered}
-use Rattle.search.specs.declared.SearchAnswer.{SearchAnswer}
-use Rattle.search.specs.declared.SearchAnswer.TheVariants.{Found, Unknown}
 use Rattle.reader_step.specs.declared.Effect.{Effect}
-use Rattle.reader_step.specs.declared.SteppedReader.{SteppedReader}
+use Rattle.reader_step.specs.declared.ReaderAfter.{ReaderAfter}
 use Rattle.counting.specs.Steps.{reader_counted}
-use Rattle.answers.specs.Answers.{Ending, looked_up, ended_with, completed, Answer, underway, ended, walked, walked_last, Outcome, outcome, unless_refused, paper_result, paper_step}
+use Rattle.answers.specs.Answers.{Ending, looked_up, ended_with, completed, Answer, underway, ended, walked, walked_last, Outcome, outcome, unless_refused, paper_answer, paper_result}
 use Rattle.search.specs.Access.{word_read}
 use Rattle.search.specs.Search.{search_access, search_advance}
 
@@ -37,18 +39,27 @@ pub record ReaderEffect : Type 0 where
 abbrev pub effect_of : ReaderWork → Answer → ReaderEffect
 effect_of work answer = record { work = work; answer = answer }
 
--- the same in the code's enum
-abbrev pub paper_effect : Effect → ReaderEffect
+-- what the code's step comes to, in these words
+abbrev pub paper_effect : Effect StepResult → ReaderEffect
 paper_effect effect = record { work = effect.work; answer = paper_result effect.result }
 
--- a reader's work and the answer, after a step
-abbrev pub paper_stepped : SteppedReader → ReaderEffect
-paper_stepped stepped = record { work = stepped.reader.work; answer = paper_step stepped.answer }
+-- a reader after what its call has made; a refused one leaves it as it was found
+abbrev pub reader_left : {A : Type 0} → Reader → Result (Effect A) Refusal → ReaderAfter A
+reader_left found (Ok effect) = record { reader = reader_with effect.work; answer = Ok effect.result }
+reader_left found (Err r) = record { reader = found; answer = Err r }
+
+-- a reader's work and the answer, after a call of its own
+abbrev pub paper_after : {A : Type 0} → (A → Answer) → ReaderAfter A → ReaderEffect
+paper_after paper after = record { work = after.reader.work; answer = paper_answer paper after.answer }
+
+-- the same after a step
+abbrev pub paper_stepped : ReaderAfter StepResult → ReaderEffect
+paper_stepped = paper_after paper_result
 
 -- a lookup ends "with its value", or "with 7"
-unfoldable pub lookup_ending : SearchAnswer → Ending
-lookup_ending (Found place) = looked_up place.value
-lookup_ending Unknown = ended_with 7
+unfoldable pub lookup_ending : Option Place → Ending
+lookup_ending (Some place) = looked_up place.value
+lookup_ending None = ended_with 7
 
 -- a lookup goes on, or ends with the steps counted so far
 unfoldable pub lookup_effect : Lookup → Searched → ReaderEffect

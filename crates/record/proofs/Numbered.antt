@@ -2,12 +2,12 @@
 use Prim.Native.Nat.{ℕ, zero, suc, ◌-◌, ◌≤◌, ◌<◌}
 use mathlib.Core.Path.{◌≡◌, refl, ap, sym, ◌∙◌}
 use mathlib.Core.Bool.{Bool, true, false, cond}
-use mathlib.Core.List.{List, map}
+use mathlib.Core.List.{List}
 use mathlib.Core.Logic.{◌≢◌}
 use native.Mathlib.Omega.{arith}
 use borrow.Author.Tests.{ltb-true, ltb-false}
 use lib.Dec.{ltb}
-use lib.ListN.{length, length-map, length-set, get_or, set, get_or-eq_default}
+use lib.ListN.{length, length-set, get_or, set, get_or-eq_default}
 use lib.Seq.{set_out, get_or-set_same, get_or-set_other}
 use Rattle.record.specs.Parts.{numbered, with_numbered, numbered_place}
 
@@ -42,6 +42,11 @@ module _ {A : Type 0} (list : List A) where
   replaced_past zero new h = refl
   replaced_past (suc i) new h = set_out list i new (omega arith)
 
+-- what `numbered` and `with_numbered` are at each number
+pub ruleset numbered_laws = (numbered_at, numbered_zero, numbered_past)
+
+pub ruleset replaced_laws = (replaced_at, replaced_zero, replaced_past)
+
 -- an element that was replaced, the others, and how many there are
 module _ {A : Type 0} (list : List A) (n : ℕ) (new : A) where
   pub replaced_length : length (with_numbered list n new) ≡ length list
@@ -69,10 +74,6 @@ module _ {A : Type 0} (list : List A) (n : ℕ) (new : A) where
       go (suc i) zero h = refl
       go (suc i) (suc j) h = get_or-set_other list i j new none (λ e. h (ap suc e))
 
--- a list is as long as another made of it element by element: the kit tells an array field's length by the latter
-pub mapped_length : {A B : Type 0} (l : List A) (f : A → B) (n : ℕ) → length (map f l) ≡ n → length l ≡ n
-mapped_length l f n h = sym (length-map l f) ∙ h
-
 -- the place of a number
 pub place_at : (last n : ℕ) → 1 ≤ n → n ≤ last → numbered_place last n ≡ n - 1
 unfolding numbered_place
@@ -96,6 +97,8 @@ place_past last (suc i) h = go (ltb i last) refl
     go : (b : Bool) → ltb i last ≡ b → cond {A = ℕ} b i 0 ≡ 0
     go true e = absurd (omega (arith, ltb-true i last e))
     go false e = refl
+
+pub ruleset place_laws = (place_at, place_zero, place_past)
 
 -- it is a place of a list of that length
 pub place_below : (last n : ℕ) → 1 ≤ last → numbered_place last n < last

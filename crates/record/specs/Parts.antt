@@ -1,5 +1,5 @@
 -- Records made, and a part of one read or replaced.
-use Rattle.std.specs.Prelude.{ℕ, zero, suc, cond, List, ltb, get_or, set, replicate}
+use Rattle.std.specs.Prelude.{ℕ, zero, suc, cond, Some, List, ltb, get_or, set, replicate}
 use Rattle.record.specs.declared.Record.{Record}
 use Rattle.record.specs.declared.Reader.{Reader}
 use Rattle.record.specs.declared.ReaderWork.{ReaderWork}
@@ -8,7 +8,6 @@ use Rattle.record.specs.declared.Writer.{Writer}
 use Rattle.record.specs.declared.WriterWork.{WriterWork}
 use Rattle.record.specs.declared.WriterWork.TheVariants.{Idle as WriterWork-as-Idle}
 use Rattle.record.specs.declared.Station.{Station}
-use Rattle.record.specs.declared.CommandAnswer.TheVariants.{Value}
 
 -- a reader with this work
 abbrev pub reader_with : ReaderWork → Reader
@@ -24,7 +23,7 @@ idle_reader = reader_with ReaderWork-as-Idle
 
 -- "Each station's last number starts at 0"
 abbrev pub unheard_station : Station
-unheard_station = record { number = 0; point = 0; action = 0; answer = Value 0 }
+unheard_station = record { number = 0; point = 0; action = 0; answer = Some 0 }
 
 -- the record of a panel that stores nothing, everyone idle, the place in the circle "at first 0, the writer"; with m and k 0 it is "all zeros, everyone idle"
 unfoldable pub fresh_record : ℕ → ℕ → Record

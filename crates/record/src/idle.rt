@@ -7,20 +7,11 @@ use crate::{ReaderWork, WriterWork};
 pub fn is_reader_idle(work: ReaderWork) -> bool
     ensures { result ≡ is_reader_idle work }
 {
-    match work {
-        ReaderWork::Idle => true,
-        ReaderWork::LookingUp(_) => false,
-        ReaderWork::Walking(_) => false,
-    }
+    matches!(work, ReaderWork::Idle)
 }
 
 pub fn is_writer_idle(work: WriterWork) -> bool
     ensures { result ≡ is_writer_idle work }
 {
-    match work {
-        WriterWork::Idle => true,
-        WriterWork::Putting(_) => false,
-        WriterWork::Changing(_) => false,
-        WriterWork::Removing(_) => false,
-    }
+    matches!(work, WriterWork::Idle)
 }

@@ -167,12 +167,6 @@ pub struct Station {
     pub number: u32,
     pub point: u32,
     pub action: u32,
-    pub answer: CommandAnswer,
-}
-
-#[derive(Clone, Copy)]
-pub enum CommandAnswer {
-    Value(u32),
-    // refusal 7
-    Unknown,
+    // the new value, or none for refusal 7
+    pub answer: Option<u32>,
 }

@@ -1,9 +1,8 @@
-// Records made, and a part of one read or replaced. A part of an array is read from a copy of that array,
-// since the compiler would copy the whole record for it.
+// Records made, and a part of one read or replaced.
 ghost use Rattle.std.specs.Prelude.{◌≡◌};
-ghost use Rattle.record.specs.Parts.{unheard_station, fresh_record, work_of, with_work, reader_place, with_writer, with_reach, with_place, numbered_place, count_in, count_of, with_count, station_of, with_station};
+ghost use Rattle.record.specs.Parts.{unheard_station, fresh_record, work_of, with_work, reader_place, with_writer, with_reach, with_place, numbered, with_numbered, numbered_place, count_in, count_of, with_count, station_of, with_station};
 
-use crate::{CommandAnswer, Reader, ReaderWork, Record, Station, Writer, WriterWork};
+use crate::{Reader, ReaderWork, Record, Station, Writer, WriterWork};
 
 // A station that sent no command yet.
 fn unheard() -> Station
@@ -13,7 +12,7 @@ fn unheard() -> Station
         number: 0,
         point: 0,
         action: 0,
-        answer: CommandAnswer::Value(0),
+        answer: Some(0),
     }
 }
 
@@ -25,20 +24,16 @@ pub fn fresh_record(m: u32, k: u32) -> Record
     let idle = Reader {
         work: ReaderWork::Idle,
     };
-    let silent = unheard();
-    let counts = [0u32; 64];
-    let readers = [idle; 16];
-    let stations = [silent; 32];
     Record {
-        m: m,
-        k: k,
+        m,
+        k,
         reach: 0,
-        counts: counts,
+        counts: [0; 64],
         writer: Writer {
             work: WriterWork::Idle,
         },
-        readers: readers,
-        stations: stations,
+        readers: [idle; 16],
+        stations: [unheard(); 32],
         place: 0,
     }
 }
@@ -48,12 +43,10 @@ pub fn fresh_record(m: u32, k: u32) -> Record
 pub fn work_of(panel: Record, reader: u32) -> ReaderWork
     ensures { result ≡ work_of panel reader }
 {
-    if 15 < reader {
-        return ReaderWork::Idle;
-    }
-    let readers = panel.readers;
-    let found = readers[reader as usize];
-    found.work
+    panel
+        .readers
+        .get(reader as usize)
+        .map_or(ReaderWork::Idle, |found| found.work)
 }
 
 // The record with a reader's work replaced; above 15 the record as it is.
@@ -63,7 +56,7 @@ pub fn with_work(panel: Record, reader: u32, work: ReaderWork) -> Record
 {
     let mut next = panel;
     if reader <= 15 {
-        next.readers[reader as usize] = Reader { work: work };
+        next.readers[reader as usize] = Reader { work };
     }
     next
 }
@@ -73,10 +66,7 @@ pub fn with_work(panel: Record, reader: u32, work: ReaderWork) -> Record
 pub fn reader_place(reader: u32) -> usize
     ensures { result ≡ reader_place reader }
 {
-    if 15 < reader {
-        return 0;
-    }
-    reader as usize
+    if 15 < reader { 0 } else { reader as usize }
 }
 
 // The record with the writer's work replaced.
@@ -84,10 +74,10 @@ pub fn reader_place(reader: u32) -> usize
 pub fn with_writer(panel: Record, work: WriterWork) -> Record
     ensures { result ≡ with_writer panel work }
 {
-    let writer = Writer { work: work };
-    let mut next = panel;
-    next.writer = writer;
-    next
+    Record {
+        writer: Writer { work },
+        ..panel
+    }
 }
 
 // The record with the reach replaced.
@@ -95,9 +85,7 @@ pub fn with_writer(panel: Record, work: WriterWork) -> Record
 pub fn with_reach(panel: Record, reach: u32) -> Record
     ensures { result ≡ with_reach panel reach }
 {
-    let mut next = panel;
-    next.reach = reach;
-    next
+    Record { reach, ..panel }
 }
 
 // The record with the place in the circle replaced.
@@ -105,23 +93,14 @@ pub fn with_reach(panel: Record, reach: u32) -> Record
 pub fn with_place(panel: Record, place: u32) -> Record
     ensures { result ≡ with_place panel place }
 {
-    let mut next = panel;
-    next.place = place;
-    next
+    Record { place, ..panel }
 }
 
 // How many stored points use an index, 1 to 64, by the counts; of another index none do.
 pub fn count_in(counts: &[u32; 64], index: u32) -> u32
     ensures { result ≡ count_in counts.now index }
 {
-    let all: &[u32] = counts;
-    if index == 0 {
-        return 0;
-    }
-    if all.len() < index as usize {
-        return 0;
-    }
-    all[(index - 1) as usize]
+    numbered(counts, index, 0)
 }
 
 // The same by the record.
@@ -129,8 +108,7 @@ pub fn count_in(counts: &[u32; 64], index: u32) -> u32
 pub fn count_of(panel: Record, index: u32) -> u32
     ensures { result ≡ count_of panel index }
 {
-    let counts = panel.counts;
-    count_in(&counts, index)
+    count_in(&panel.counts, index)
 }
 
 // The record with an index's count replaced; with an index outside 1 to 64 the record as it is.
@@ -138,14 +116,8 @@ pub fn count_of(panel: Record, index: u32) -> u32
 pub fn with_count(panel: Record, index: u32, count: u32) -> Record
     ensures { result ≡ with_count panel index count }
 {
-    if index == 0 {
-        return panel;
-    }
-    if 64 < index {
-        return panel;
-    }
     let mut next = panel;
-    next.counts[(index - 1) as usize] = count;
+    replace_numbered(&mut next.counts, index, count);
     next
 }
 
@@ -154,14 +126,7 @@ pub fn with_count(panel: Record, index: u32, count: u32) -> Record
 pub fn station_of(panel: Record, station: u32) -> Station
     ensures { result ≡ station_of panel station }
 {
-    if station == 0 {
-        return unheard();
-    }
-    if 32 < station {
-        return unheard();
-    }
-    let stations = panel.stations;
-    stations[(station - 1) as usize]
+    numbered(&panel.stations, station, unheard())
 }
 
 // The record with a station's last command replaced; with a station outside 1 to 32 the record as it is.
@@ -169,25 +134,40 @@ pub fn station_of(panel: Record, station: u32) -> Station
 pub fn with_station(panel: Record, station: u32, last: Station) -> Record
     ensures { result ≡ with_station panel station last }
 {
-    if station == 0 {
-        return panel;
-    }
-    if 32 < station {
-        return panel;
-    }
     let mut next = panel;
-    next.stations[(station - 1) as usize] = last;
+    replace_numbered(&mut next.stations, station, last);
     next
 }
 
+// The element of that number, counted from 1; of another number what stands for none.
+#[tactic(auto, using(crate::proofs::Numbered::numbered_laws))]
+fn numbered<T: Copy>(list: &[T], number: u32, none: T) -> T
+    ensures { result ≡ numbered list.now number none }
+{
+    match number.checked_sub(1) {
+        Some(i) => list.get(i as usize).copied().unwrap_or(none),
+        None => none,
+    }
+}
+
+// Puts an element in the place of the one of that number; with another number the list stays as it is.
+#[tactic(auto, using(crate::proofs::Numbered::replaced_laws))]
+fn replace_numbered<T: Copy>(list: &mut [T], number: u32, new: T)
+    ensures { list.new ≡ with_numbered list.old number new }
+{
+    if let Some(i) = number.checked_sub(1)
+        && (i as usize) < list.len()
+    {
+        list[i as usize] = new;
+    }
+}
+
 // The place of the element of that number, counted from 1 to last; 0 where there is none.
+#[tactic(auto, using(crate::proofs::Numbered::place_laws))]
 pub fn numbered_place(number: u32, last: u32) -> usize
     ensures { result ≡ numbered_place last number }
 {
-    if number == 0 {
-        return 0;
-    }
-    if last < number {
+    if number == 0 || last < number {
         return 0;
     }
     (number - 1) as usize

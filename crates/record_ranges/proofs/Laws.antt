@@ -16,7 +16,7 @@ use Rattle.record.specs.declared.WriterWork.{WriterWork}
 use Rattle.record.specs.declared.Station.{Station}
 use Rattle.record.specs.Parts.{idle_reader, fresh_record, work_of, with_work, with_writer, with_reach, count_of, with_count, with_station, with_counts, with_readers, with_stations, with_place}
 use Rattle.record.specs.Idle.{is_reader_idle}
-use Rattle.record_ranges.specs.Ranges.{all, sizes_in_range, counts_in_range, reader_in_range, readers_in_range, station_in_range, stations_in_range, parts_in_range, in_range}
+use Rattle.record_ranges.specs.Ranges.{sizes_in_range, counts_in_range, reader_in_range, readers_in_range, station_in_range, stations_in_range, parts_in_range, in_range}
 use Rattle.work_ranges.specs.WorkRanges.{work_in_range, writer_in_range}
 use Rattle.record_ranges.proofs.All.{all_at, all_set, all_take, all_replicate}
 use Rattle.record_ranges.proofs.NumberedRanges.{all_replaced, all_first_replaced, all_first_at}
@@ -206,7 +206,7 @@ module _ (lent : ℕ) (panel : Record) (h : in_range lent panel ≡ true) where
       (all_first_at (λ (c : ℕ). leb c panel.m) panel.k panel.counts index 0 (fields lent panel h).counts_fit (leb-zero panel.m) e)
 
 pub fresh_in_range : (m k lent : ℕ) → sizes_in_range m k lent ≡ true → in_range lent (fresh_record m k) ≡ true
-unfolding in_range parts_in_range fresh_record counts_in_range writer_in_range readers_in_range reader_in_range work_in_range stations_in_range station_in_range all both either
+unfolding in_range parts_in_range fresh_record counts_in_range writer_in_range readers_in_range reader_in_range work_in_range stations_in_range station_in_range both either
 fresh_in_range m k lent h =
     both_true _ _ h
     (both_true _ _ (leb-zero k)

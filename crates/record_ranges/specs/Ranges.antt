@@ -1,5 +1,6 @@
--- Document 01, "What the panel holds": the ranges of the record's fields. Refusal 1 is given where `inRange` fails.
-use Rattle.std.specs.Prelude.{ℕ, Bool, true, List, [], ◌∷◌, leb, eqb, take}
+-- Document 01, "What the panel holds": the ranges of the record's fields. Refusal 1 is given where `in_range` fails.
+use Rattle.std.specs.Prelude.{ℕ, Bool, List, leb, eqb, take}
+use Rattle.std.specs.List.{list_all}
 use Rattle.conditions.specs.Conditions.{both, either, within}
 use Rattle.record.specs.declared.Record.{Record}
 use Rattle.record.specs.declared.Reader.{Reader}
@@ -8,18 +9,13 @@ use Rattle.record.specs.declared.WriterWork.{WriterWork}
 use Rattle.slot_words.specs.Points.{valid_point}
 use Rattle.work_ranges.specs.WorkRanges.{work_in_range, writer_in_range}
 
--- the test holds of each element
-unfoldable pub all : {A : Type 0} → (A → Bool) → List A → Bool
-all test [] = true
-all test (x ∷ rest) = both (test x) (all test rest)
-
 -- "m from 1 to 4096"; "k (1 to 64)"; refusal 1: "slots lent ≠ m"
 unfoldable pub sizes_in_range : ℕ → ℕ → ℕ → Bool
 sizes_in_range m k lent = both (within 1 m 4096) (both (within 1 k 64) (eqb lent m))
 
 -- "for each function index 1 to k, how many stored points use it (0 to m)"
 unfoldable pub counts_in_range : ℕ → ℕ → List ℕ → Bool
-counts_in_range m k counts = all (λ (count : ℕ). leb count m) (take k counts)
+counts_in_range m k counts = list_all (λ (count : ℕ). leb count m) (take k counts)
 
 -- a reader's work
 unfoldable pub reader_in_range : ℕ → ℕ → Reader → Bool
@@ -27,7 +23,7 @@ reader_in_range m k reader = work_in_range m k reader.work
 
 -- "sixteen readers' work"
 unfoldable pub readers_in_range : ℕ → ℕ → List Reader → Bool
-readers_in_range m k readers = all (reader_in_range m k) readers
+readers_in_range m k readers = list_all (reader_in_range m k) readers
 
 -- "number 0 to 16777215; where it isn't 0, valid point and action"; an answer is a value or refusal 7 by its type
 unfoldable pub station_in_range : Station → Bool
@@ -37,7 +33,7 @@ station_in_range station =
 
 -- "for stations 1 to 32 the last command with its answer"
 unfoldable pub stations_in_range : List Station → Bool
-stations_in_range stations = all station_in_range stations
+stations_in_range stations = list_all station_in_range stations
 
 -- every field in range, for a number of slots lent, by what holds of the three arrays; "the reach (0 to k)"; "The place in the circle .. is a record field, 0 to 16"
 unfoldable pub parts_in_range : ℕ → ℕ → ℕ → ℕ → Bool → WriterWork → Bool → Bool → ℕ → Bool

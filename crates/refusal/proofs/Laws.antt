@@ -1,4 +1,4 @@
--- Laws of the refusals: no number is 0, so that 0 can mean "not refused"; a number tells its row; a word's letters are in its array;
+-- Laws of the refusals: no number is 0, so that 0 can mean "not refused"; a number tells its row;
 -- and what follows where a chain of tests refuses or does not.
 use Prim.Native.Nat.{ℕ, zero, suc, ◌-◌, ◌≤◌}
 use mathlib.Core.Path.{◌≡◌, refl}
@@ -6,12 +6,11 @@ use mathlib.Core.Bool.{Bool, true, false}
 use mathlib.Core.List.{List, [], ◌∷◌}
 use mathlib.Mathlib.Logic.Function.Defs.{LeftInverse-Injective}
 use native.Mathlib.Omega.{arith}
-use lib.ListN.{length, get_or, replicate, length-append}
+use lib.ListN.{get_or}
 use Rattle.refusal.specs.declared.Refusal.{Refusal}
 use Rattle.refusal.specs.declared.Refusal.TheVariants.{Misfit, Address, Reader, Engaged, Idle, NoPerch, Unknown, Length, Map, Station, Turn, Altered, Code, Short}
-use Rattle.refusal.specs.declared.Word.{Word}
 use Rattle.refusal.specs.Judging.{refuse_if, or_else}
-use Rattle.refusal.specs.Refusals.{number_of, word_of, codes, spelt}
+use Rattle.refusal.specs.Refusals.{number_of}
 
 -- the row of a number
 pub row_of : ℕ → Refusal
@@ -52,12 +51,6 @@ number_positive Turn = omega arith
 number_positive Altered = omega arith
 number_positive Code = omega arith
 number_positive Short = omega arith
-
-spelt_fits : (l : List ℕ) → (spelt l).length ≤ length (spelt l).letters
-spelt_fits l = omega (arith, length-append l (replicate (8 - length l) 0))
-
-pub word_fits : (w : Word) (r : Refusal) → w ≡ spelt (codes (word_of r)) → w.length ≤ length w.letters
-word_fits w r e = rw e (spelt_fits (codes (word_of r)))
 
 -- where a chain refuses nothing, its first test failed, and so does the rest of it
 pub not_refused : (t : Bool) (n later : ℕ) → 1 ≤ n → refuse_if t n later ≡ 0 → (t ≡ false) × (later ≡ 0)

@@ -1,12 +1,8 @@
 -- Document 01, "Refusal table": the number and the word of each row.
-use Rattle.std.specs.Prelude.{ℕ, ◌-◌, List, [], ◌∷◌, ◌++◌, length, replicate}
-use Prim.Native.Char.{code}
+use Rattle.std.specs.Prelude.{ℕ, Result, Ok, Err, ⊤}
 use Prim.Native.String.{String}
 use Rattle.refusal.specs.declared.Refusal.{Refusal}
 use Rattle.refusal.specs.declared.Refusal.TheVariants.{Misfit, Address, Reader, Engaged, Idle, NoPerch, Unknown, Length, Map, Station, Turn, Altered, Code, Short}
-use Rattle.refusal.specs.declared.Judged.{Judged}
-use Rattle.refusal.specs.declared.Judged.TheVariants.{Allowed, Refused}
-use Rattle.refusal.specs.declared.Word.{Word}
 
 -- column "no."
 abbrev pub number_of : Refusal → ℕ
@@ -26,9 +22,9 @@ number_of Code = 13
 number_of Short = 14
 
 -- what a call's tests came to, as a chain of tests gives it: the refusal's number, or 0 for none
-abbrev pub paper_judged : Judged → ℕ
-paper_judged Allowed = 0
-paper_judged (Refused r) = number_of r
+abbrev pub paper_judged : Result ⊤ Refusal → ℕ
+paper_judged (Ok _) = 0
+paper_judged (Err r) = number_of r
 
 -- column "word"
 abbrev pub word_of : Refusal → String
@@ -46,16 +42,3 @@ word_of Turn = "turn"
 word_of Altered = "altered"
 word_of Code = "code"
 word_of Short = "short"
-
--- a text's characters as numbers, for the words in ASCII
-abbrev pub codes : String → List ℕ
-codes String.[] = []
-codes (String.◌∷◌ c s) = code c ∷ codes s
-
--- letters, and how many of them count
-abbrev pub word : List ℕ → ℕ → Word
-word letters n = record { letters = letters; length = n }
-
--- how a word is handed over: its letters, then zeros up to eight, and how many are letters
-abbrev pub spelt : List ℕ → Word
-spelt l = word (l ++ replicate (8 - length l) 0) (length l)

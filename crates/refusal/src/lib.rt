@@ -1,13 +1,16 @@
 // Document 01's refusal table: one enum, the number and the word of each row.
 #![tactic(auto)]
 
-ghost use Rattle.std.specs.Prelude.{◌≡◌};
-ghost use Rattle.refusal.specs.Refusals.{number_of, word_of, codes, word, spelt};
+ghost use Rattle.std.specs.Prelude.{◌≡◌, codes};
+ghost use Rattle.refusal.specs.Refusals.{number_of, word_of};
 
-#[derive(Clone, Copy)]
+use std::fmt;
+
+// A row of the table; its number is the variant's.
+#[derive(Clone, Copy, Debug, PartialEq, Eq)]
 pub enum Refusal {
     // m, k or a record field out of range, or slots lent other than m
-    Misfit,
+    Misfit = 1,
     // point outside 1 to 2147483646
     Address,
     // reader above 15
@@ -41,66 +44,35 @@ impl Refusal {
     pub fn number(self) -> u32
         ensures { result ≡ number_of self }
     {
-        match self {
-            Refusal::Misfit => 1,
-            Refusal::Address => 2,
-            Refusal::Reader => 3,
-            Refusal::Engaged => 4,
-            Refusal::Idle => 5,
-            Refusal::NoPerch => 6,
-            Refusal::Unknown => 7,
-            Refusal::Length => 8,
-            Refusal::Map => 9,
-            Refusal::Station => 10,
-            Refusal::Turn => 11,
-            Refusal::Altered => 12,
-            Refusal::Code => 13,
-            Refusal::Short => 14,
-        }
+        self as u32
     }
 
     // The row's word in the table.
-    pub fn word(self) -> Word
-        ensures { result ≡ spelt (codes (word_of self)) }
+    pub fn word(self) -> &'static str
+        ensures { result.now ≡ codes (word_of self) }
     {
         match self {
-            Refusal::Misfit => spelled(b"misfit\0\0", 6),
-            Refusal::Address => spelled(b"address\0", 7),
-            Refusal::Reader => spelled(b"reader\0\0", 6),
-            Refusal::Engaged => spelled(b"engaged\0", 7),
-            Refusal::Idle => spelled(b"idle\0\0\0\0", 4),
-            Refusal::NoPerch => spelled(b"no perch", 8),
-            Refusal::Unknown => spelled(b"unknown\0", 7),
-            Refusal::Length => spelled(b"length\0\0", 6),
-            Refusal::Map => spelled(b"map\0\0\0\0\0", 3),
-            Refusal::Station => spelled(b"station\0", 7),
-            Refusal::Turn => spelled(b"turn\0\0\0\0", 4),
-            Refusal::Altered => spelled(b"altered\0", 7),
-            Refusal::Code => spelled(b"code\0\0\0\0", 4),
-            Refusal::Short => spelled(b"short\0\0\0", 5),
+            Refusal::Misfit => "misfit",
+            Refusal::Address => "address",
+            Refusal::Reader => "reader",
+            Refusal::Engaged => "engaged",
+            Refusal::Idle => "idle",
+            Refusal::NoPerch => "no perch",
+            Refusal::Unknown => "unknown",
+            Refusal::Length => "length",
+            Refusal::Map => "map",
+            Refusal::Station => "station",
+            Refusal::Turn => "turn",
+            Refusal::Altered => "altered",
+            Refusal::Code => "code",
+            Refusal::Short => "short",
         }
     }
 }
 
-// What the tests of a call came to.
-#[derive(Clone, Copy)]
-pub enum Judged {
-    Allowed,
-    Refused(Refusal),
-}
-
-// A word of the table in ASCII: the first `length` of the letters, and zeros behind them.
-#[derive(Clone, Copy)]
-pub struct Word {
-    pub letters: [u8; 8],
-    pub length: usize,
-}
-
-fn spelled(letters: &[u8; 8], length: usize) -> Word
-    ensures { result ≡ word letters.now length }
-{
-    Word {
-        letters: *letters,
-        length: length,
+// A refusal shows as its number and its word.
+impl fmt::Display for Refusal {
+    fn fmt<W: fmt::Write>(&self, f: &mut fmt::Formatter<W>) -> fmt::Result {
+        write!(f, "{} {}", self.number(), self.word())
     }
 }

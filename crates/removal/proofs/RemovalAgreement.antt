@@ -1,5 +1,6 @@
 -- A removal's step, where the table agrees with a plain list: it goes on as it should, empties the slot and so feeds the list, or ends with the answer that the
 -- plain list gives. The reach is lowered only after the slot was emptied, to the list's largest index, so it covers every row all the time.
+use Rattle.std.specs.Prelude.{Some, None}
 use Prim.Native.Nat.{ℕ, zero, suc, ◌-◌, ◌≤◌}
 use mathlib.Core.Bool.{Bool, true, false, cond}
 use mathlib.Core.Path.{◌≡◌, refl, sym, ap, subst, ◌∙◌}
@@ -32,7 +33,6 @@ use Rattle.plain_list.proofs.Changes.{agrees_emptied, agrees_reached}
 use Rattle.search.specs.declared.access.ReadAccess.{ReadAccess}
 use Rattle.search.specs.declared.Searched.{Searched}
 use Rattle.search.specs.declared.Searched.TheVariants.{Going, Answered}
-use Rattle.search.specs.declared.SearchAnswer.TheVariants.{Found as SearchAnswer-as-Found, Unknown}
 use Rattle.search.specs.Access.{word_read}
 use Rattle.search.specs.Search.{search_access, search_advance}
 use Rattle.search.proofs.TrailLaws.{Knows, search_knows}
@@ -82,8 +82,8 @@ module _ (panel : Record) (slots : List ℕ) (rows : Rows) (removal : Removal) (
   searched : (read : ReadAccess) (after : Searched) → fed_at removal.stage ≡ 0 → Tight m k panel.reach rows → Knows (entry_of q rows ≡ absent) m k q rows after → StepOK panel slots (Read read) (removal_searched removal after) rows (remove_row m k q rows) (Removing removal)
   unfolding removal_searched removal_answered remove_row remove_entry ends slots_after updated
   searched read (Going search) unfed tight h = on_stage read (Searching search) _ refl unfed refl (h, tight)
-  searched read (Answered (SearchAnswer-as-Found place)) unfed tight h = on_stage read (RemovalStage-as-Found place) _ refl unfed refl (standing m k q rows place h, tight)
-  searched read (Answered Unknown) unfed tight h =
+  searched read (Answered (Some place)) unfed tight h = on_stage read (RemovalStage-as-Found place) _ refl unfed refl (standing m k q rows place h, tight)
+  searched read (Answered None) unfed tight h =
       let told : remove_row m k q rows ≡ tells rows (ended_with 7) = rw h in
       subst (λ t. StepOK panel slots (Read read) (ends Nothing (ended_with 7)) rows t (Removing removal)) (sym told)
       (ends_fed unfed refl refl (steady_same rows) (not_a_command refl refl) (record { agrees = agrees; work = tight }))

@@ -1,5 +1,6 @@
 -- Laws of a removal's step: it goes on in range or ends, and takes one of the steps that are left; so a removal takes at most k + 3;
 -- it updates the reach in the step whose access stores it, and touches one of the slots lent.
+use Rattle.std.specs.Prelude.{Some, None}
 use Prim.Native.Nat.{ℕ, ◌+◌, ◌≤◌, ◌<◌}
 use mathlib.Core.Path.{◌≡◌, refl}
 use mathlib.Core.Bool.{Bool, true, false, cond}
@@ -18,7 +19,6 @@ use Rattle.counting.specs.declared.steps.OperationKind.TheVariants.{Removal as K
 use Rattle.work_ranges.specs.WorkRanges.{steps_in_range, removal_stage_in_range, removal_in_range, writer_in_range}
 use Rattle.search.specs.declared.Searched.{Searched}
 use Rattle.search.specs.declared.Searched.TheVariants.{Going, Answered}
-use Rattle.search.specs.declared.SearchAnswer.TheVariants.{Found as SearchAnswer-as-Found, Unknown}
 use Rattle.answers.specs.Answers.{removed}
 use Rattle.search.specs.Search.{search_advance}
 use Rattle.search.proofs.SearchLaws.{search_inside, searched_left, searched_in_range, answer_in_range, OneStep, search_step}
@@ -41,8 +41,8 @@ module _ (k reach place : ℕ) (counts : List ℕ) (removal : Removal) (valid : 
   searched : (left : ℕ) (after : Searched) → OneStep k left after → OneEffect k reach place (left + 2) (removal_searched removal after)
   unfolding removal_searched removal_answered ends removal_stage_in_range removal_left searched_in_range searched_left answer_in_range update_in_range writer_in_range writer_left
   searched left (Going search) s = at_stage _ (Searching search) Nothing s.fits refl (omega (arith, s.less))
-  searched left (Answered (SearchAnswer-as-Found place)) s = at_stage _ (RemovalStage-as-Found place) Nothing s.fits refl (omega (arith, s.less))
-  searched left (Answered Unknown) s = record { work_fits = refl; update_fits = refl; ended = λ steps. refl; less = omega arith }
+  searched left (Answered (Some place)) s = at_stage _ (RemovalStage-as-Found place) Nothing s.fits refl (omega (arith, s.less))
+  searched left (Answered None) s = record { work_fits = refl; update_fits = refl; ended = λ steps. refl; less = omega arith }
 
   empties : (index : ℕ) → within 1 index k ≡ true → OneEffect k reach place 2 (removal_empties reach counts removal index)
   unfolding removal_empties ends removal_stage_in_range removal_left update_in_range writer_in_range writer_left
@@ -71,8 +71,8 @@ module _ (m k reach : ℕ) (counts : List ℕ) (removal : Removal) (word : ℕ) 
   searched_reach : (after : Searched) → reach_after reach (removal_searched removal after).update ≡ reach
   unfolding removal_searched removal_answered removal_at ends
   searched_reach (Going search) = refl
-  searched_reach (Answered (SearchAnswer-as-Found place)) = refl
-  searched_reach (Answered Unknown) = refl
+  searched_reach (Answered (Some place)) = refl
+  searched_reach (Answered None) = refl
 
   emptied_reach : (index : ℕ) → reach_after reach (removal_empties reach counts removal index).update ≡ reach
   unfolding removal_empties removal_at ends

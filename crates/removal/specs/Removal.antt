@@ -1,5 +1,6 @@
 -- Document 01, "Steps": a removal. Where it compares an index with the reach, "the record's own reach at that step is meant".
-use Rattle.std.specs.Prelude.{ℕ, Bool, cond, List, eqb}
+use Rattle.record.specs.declared.Place.{Place}
+use Rattle.std.specs.Prelude.{ℕ, Bool, cond, List, eqb, Option, Some, None}
 use Rattle.conditions.specs.Conditions.{both}
 use Rattle.record.specs.declared.Removal.{Removal}
 use Rattle.record.specs.declared.RemovalStage.{RemovalStage}
@@ -8,8 +9,6 @@ use Rattle.record.specs.declared.WriterWork.TheVariants.{Removing}
 use Rattle.record.specs.Parts.{count_in}
 use Rattle.search.specs.declared.Searched.{Searched}
 use Rattle.search.specs.declared.Searched.TheVariants.{Going, Answered}
-use Rattle.search.specs.declared.SearchAnswer.{SearchAnswer}
-use Rattle.search.specs.declared.SearchAnswer.TheVariants.{Found as SearchAnswer-as-Found, Unknown}
 use Rattle.answers.specs.Answers.{removed, ended_with, continues}
 use Rattle.search.specs.Search.{search_access, search_advance}
 use Rattle.effects.specs.declared.memory.WriterAccess.{WriterAccess}
@@ -36,9 +35,9 @@ removal_at removal stage update =
     record { work = Removing (record { point = removal.point; stage = stage; steps = removal.steps }); update = update; progress = continues }
 
 -- "found, store 0"; "Else 7"
-unfoldable pub removal_answered : Removal → SearchAnswer → WriterEffect
-removal_answered removal (SearchAnswer-as-Found place) = removal_at removal (RemovalStage-as-Found place) Nothing
-removal_answered removal Unknown = ends Nothing (ended_with 7)
+unfoldable pub removal_answered : Removal → Option Place → WriterEffect
+removal_answered removal (Some place) = removal_at removal (RemovalStage-as-Found place) Nothing
+removal_answered removal None = ends Nothing (ended_with 7)
 
 -- "search"
 unfoldable pub removal_searched : Removal → Searched → WriterEffect

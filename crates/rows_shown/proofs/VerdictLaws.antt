@@ -1,98 +1,55 @@
--- The test of the slots against the plain list, row by row and slot by slot, decides `Shows`.
-use Prim.Native.Nat.{ℕ, zero, suc, ◌+◌, ◌<◌}
-use mathlib.Core.Bool.{Bool, true, false, cond, false≢true}
-use mathlib.Core.List.{List, [], ◌∷◌}
-use mathlib.Core.Path.{◌≡◌, refl, sym, ap, ◌∙◌}
-use native.Mathlib.Numerals.{add-one}
-use native.Mathlib.Omega.{arith}
-use borrow.Author.Tests.{eqb-true, eqb-false, eq-eqb, ltb-true, lt-ltb}
-use lib.Dec.{eqb, ltb}
-use lib.ListN.{length, get_or}
-use Rattle.conditions.specs.Conditions.{both, either}
-use Rattle.conditions.proofs.ConditionLaws.{both_left, both_right, both_true}
+-- The tests of the slots against the plain list, row by row and slot by slot, decide `Shows`; what is found among the rows.
+use Rattle.std.proofs.Common.{◌≡◌, ℕ, zero, suc, ◌-◌, ◌<◌, Bool, true, false, cond, List, [], ◌∷◌, map, reverse, length, get_or, refl, sym, ap, ◌∙◌, arith, Some}
+use Rattle.std.specs.Prelude.{◌==◌, eqb}
+use Rattle.std.specs.Bool.{MatchBool}
+use Rattle.std.specs.List.{find, AllWithin, HoldsAt}
+use Rattle.std.specs.Option.{option_map_or}
+use Rattle.std.proofs.lemmas.List.{reverse-reverse, length-reverse, get_or-reverse}
 use Rattle.slot_words.specs.Word.{point_of, value_of, word_of}
-use Rattle.plain_list.specs.PlainList.{Rows, is_place, Each, AtPlace, Shows}
-use Rattle.plain_rows.specs.Rows.{rows_of}
-use Rattle.plain_rows.proofs.RowsLaws.{rows_more}
-use Rattle.rows_shown.specs.Verdict.{word_listed, Decides, stands, rows_stand, others_empty}
+use Rattle.plain_list.specs.PlainList.{Row, Each}
+use Rattle.plain_rows.specs.declared.Row.{Row as RowHeld}
+use Rattle.plain_rows.specs.Rows.{row_of, rows_of, no_row}
+use Rattle.rows_shown.specs.Verdict.{word_listed, Decides}
 
--- one row more
-module _ (words places : List ℕ) (row : ℕ) where
-  pub stand_more : (slots : List ℕ) → both (rows_stand slots (rows_of words places row)) (stands slots (get_or places row 0) (get_or words row 0)) ≡ rows_stand slots (rows_of words places (row + 1))
-  unfolding rows_stand
-  stand_more slots =
-      let whole : get_or words row 0 ≡ word_of (point_of (get_or words row 0)) (value_of (get_or words row 0)) = omega arith in
-      ap (λ (word : ℕ). both (rows_stand slots (rows_of words places row)) (stands slots (get_or places row 0) word)) whole
-      ∙ sym (ap (rows_stand slots) (rows_more words places row))
+module _ (P : Row → Type 0) where
+  all_each : (xs : List RowHeld) → ((k : ℕ) (d : RowHeld) → k < length xs → P (row_of (get_or xs k d))) → Each P (map row_of xs)
+  all_each [] all = tt
+  all_each (r ∷ xs) all = (all 0 no_row (omega arith), all_each xs (λ k d h. all (suc k) d (omega arith)))
 
-  pub listed_more : (place : ℕ) → cond (eqb (get_or places row 0) place) (get_or words row 0) (word_listed place (rows_of words places row)) ≡ word_listed place (rows_of words places (row + 1))
-  unfolding word_listed
-  listed_more place =
-      let whole : get_or words row 0 ≡ word_of (point_of (get_or words row 0)) (value_of (get_or words row 0)) = omega arith in
-      ap (λ (word : ℕ). cond (eqb (get_or places row 0) place) word (word_listed place (rows_of words places row))) whole
-      ∙ sym (ap (word_listed place) (rows_more words places row))
+  each_all : (xs : List RowHeld) → Each P (map row_of xs) → (k : ℕ) (d : RowHeld) → k < length xs → P (row_of (get_or xs k d))
+  each_all [] each k d h = absurd (omega arith)
+  each_all (r ∷ xs) each zero d h = each.0
+  each_all (r ∷ xs) each (suc k) d h = each_all xs each.1 k d (omega arith)
 
-  pub place_more : (place : ℕ) → either (eqb (get_or places row 0) place) (is_place place (rows_of words places row)) ≡ is_place place (rows_of words places (row + 1))
-  unfolding is_place
-  place_more place = sym (ap (is_place place) (rows_more words places row))
+  -- a test of each row decides
+  pub each_decided : (xs : List RowHeld) (r : Bool) → MatchBool r (AllWithin (λ x. P (row_of x)) xs 0 (length xs)) ((k : ℕ) × (k < length xs) × HoldsAt (λ x. P (row_of x) → ⊥) xs k) → Decides (Each P (rows_of xs)) r
+  unfolding rows_of
+  each_decided xs true all =
+      all_each (reverse xs)
+      (λ k d h.
+      let inside : k < length xs = omega (arith, length-reverse xs) in
+      rw (get_or-reverse xs k d inside) (all (length xs - 1 - k) d (omega arith) (omega arith)))
+  each_decided xs false some = λ each.
+      let long = length-reverse xs in
+      let k = some.0 in
+      let inside : k < length (reverse xs) = omega (arith, some.1) in
+      let there = each_all (reverse xs) each (length (reverse xs) - 1 - k) no_row (omega arith) in
+      let same : get_or (reverse xs) (length (reverse xs) - 1 - k) no_row ≡ get_or xs k no_row = sym (get_or-reverse (reverse xs) k no_row inside) ∙ ap (λ (l : List RowHeld). get_or l k no_row) (reverse-reverse xs) in
+      some.2 no_row (rw same at there)
 
--- one slot more
-pub others_more : (slots : List ℕ) (rows : Rows) (slot : ℕ) → both (others_empty slots rows slot) (either (is_place slot rows) (eqb (get_or slots slot 0) 0)) ≡ others_empty slots rows (slot + 1)
-unfolding others_empty
-others_more slots rows slot = sym (ap (others_empty slots rows) (add-one slot))
+listed_mapped : (place : ℕ) (xs : List RowHeld) → option_map_or (λ (r : RowHeld). r.word) (find (λ r. r.place == place) xs) 0 ≡ word_listed place (map row_of xs)
+unfolding word_listed
+listed_mapped place [] = refl
+listed_mapped place (r ∷ xs) = go (eqb r.place place) (listed_mapped place xs)
+  where
+    whole : r.word ≡ word_of (point_of r.word) (value_of r.word)
+    whole = omega arith
 
-either_false : (a b : Bool) → either a b ≡ true → a ≡ false → b ≡ true
-unfolding either
-either_false true b e f = absurd (false≢true (sym f))
-either_false false b e f = e
+    go : (b : Bool) → option_map_or (λ (x : RowHeld). x.word) (find (λ x. x.place == place) xs) 0 ≡ word_listed place (map row_of xs) → option_map_or (λ (x : RowHeld). x.word) (cond b (Some r) (find (λ x. x.place == place) xs)) 0 ≡ cond b (word_of (point_of r.word) (value_of r.word)) (word_listed place (map row_of xs))
+    go true ih = whole
+    go false ih = ih
 
-either_right : (a b : Bool) → (a ≡ false → b ≡ true) → either a b ≡ true
-unfolding either
-either_right true b h = refl
-either_right false b h = h refl
-
-module _ (slots : List ℕ) where
-  stand_each : (rows : Rows) → rows_stand slots rows ≡ true → Each (AtPlace (length slots) slots) rows
-  unfolding rows_stand stands
-  stand_each [] e = tt
-  stand_each (r ∷ rows) e =
-      let first = both_right (rows_stand slots rows) (stands slots r.place (word_of r.point r.value)) e in
-      let inside = both_left (ltb r.place (length slots)) (eqb (get_or slots r.place 0) (word_of r.point r.value)) first in
-      let word = both_right (ltb r.place (length slots)) (eqb (get_or slots r.place 0) (word_of r.point r.value)) first in
-      (record { inside = ltb-true _ _ inside; word = eqb-true _ _ word }, stand_each rows (both_left (rows_stand slots rows) _ e))
-
-  each_stand : (rows : Rows) → Each (AtPlace (length slots) slots) rows → rows_stand slots rows ≡ true
-  unfolding rows_stand stands
-  each_stand [] each = refl
-  each_stand (r ∷ rows) each =
-      both_true _ _ (each_stand rows each.1) (both_true _ _ (lt-ltb _ _ each.0.inside) (eq-eqb _ _ each.0.word))
-
-  empty_others : (rows : Rows) (n : ℕ) → others_empty slots rows n ≡ true → (slot : ℕ) → slot < n → is_place slot rows ≡ false → get_or slots slot 0 ≡ 0
-  unfolding others_empty
-  empty_others rows zero e slot inside none = absurd (omega arith)
-  empty_others rows (suc n) e slot inside none =
-      go (eqb slot n) refl (λ h. empty_others rows n (both_left (others_empty slots rows n) _ e) slot h none)
-    where
-      last : either (is_place n rows) (eqb (get_or slots n 0) 0) ≡ true
-      last = both_right (others_empty slots rows n) (either (is_place n rows) (eqb (get_or slots n 0) 0)) e
-
-      go : (b : Bool) → eqb slot n ≡ b → (slot < n → get_or slots slot 0 ≡ 0) → get_or slots slot 0 ≡ 0
-      go true same before =
-          let i = eqb-true slot n same in
-          ap (λ (x : ℕ). get_or slots x 0) i ∙ eqb-true _ _ (either_false (is_place n rows) _ last (sym (ap (λ (x : ℕ). is_place x rows) i) ∙ none))
-      go false other before = before (omega (arith, eqb-false slot n other))
-
-  others_empty_lem : (rows : Rows) (n : ℕ) → ((slot : ℕ) → slot < n → is_place slot rows ≡ false → get_or slots slot 0 ≡ 0) → others_empty slots rows n ≡ true
-  unfolding others_empty
-  others_empty_lem rows zero others = refl
-  others_empty_lem rows (suc n) others =
-      both_true _ _ (others_empty_lem rows n (λ slot inside none. others slot (omega arith) none)) (either_right _ _ (λ none. eq-eqb _ _ (others n (omega arith) none)))
-
-  pub decided : (rows : Rows) (r : Bool) → r ≡ both (rows_stand slots rows) (others_empty slots rows (length slots)) → Decides (Shows (length slots) slots rows) r
-  decided rows true e =
-      record {
-        whole = refl;
-        words = stand_each rows (both_left _ _ (sym e));
-        others = empty_others rows (length slots) (both_right (rows_stand slots rows) _ (sym e));
-      }
-  decided rows false e = λ shows. false≢true (e ∙ both_true _ _ (each_stand rows shows.words) (others_empty_lem rows (length slots) shows.others))
+-- the latest row's word, from the newest row down
+pub listed_found : (place : ℕ) (xs : List RowHeld) → option_map_or (λ (r : RowHeld). r.word) (find (λ r. r.place == place) (reverse xs)) 0 ≡ word_listed place (rows_of xs)
+unfolding rows_of
+listed_found place xs = listed_mapped place (reverse xs)

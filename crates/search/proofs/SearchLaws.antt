@@ -1,5 +1,7 @@
 -- Laws of a search: each step goes on in range, finds a place in range or ends, and takes one of the steps that are left;
 -- a step reads one of the slots lent.
+use Rattle.std.specs.Prelude.{Option, Some, None}
+use Rattle.record.specs.declared.Place.{Place}
 use Prim.Native.Nat.{ℕ, ◌+◌, ◌-◌, ◌≤◌, ◌<◌}
 use mathlib.Core.Path.{◌≡◌, refl}
 use mathlib.Core.Bool.{Bool, true}
@@ -17,8 +19,6 @@ use Rattle.search.specs.declared.access.ReadAccess.{ReadAccess}
 use Rattle.search.specs.declared.access.ReadAccess.TheVariants.{Nothing, Reach, Slot}
 use Rattle.search.specs.declared.Searched.{Searched}
 use Rattle.search.specs.declared.Searched.TheVariants.{Going, Answered}
-use Rattle.search.specs.declared.SearchAnswer.{SearchAnswer}
-use Rattle.search.specs.declared.SearchAnswer.TheVariants.{Found, Unknown}
 use Rattle.search.specs.Search.{search_access, first_probe, next_probe, holds_point, probe_advance, search_advance}
 
 -- the steps that are left of a search, at most
@@ -38,9 +38,9 @@ searched_left k (Going search) = search_left k search
 searched_left k (Answered answer) = 0
 
 -- a place that was found is in range
-unfoldable pub answer_in_range : ℕ → SearchAnswer → Bool
-answer_in_range k (Found place) = within 1 place.index k
-answer_in_range k Unknown = true
+unfoldable pub answer_in_range : ℕ → Option Place → Bool
+answer_in_range k (Some place) = within 1 place.index k
+answer_in_range k None = true
 
 -- what a search goes on with, or the place that it found, is in range
 unfoldable pub searched_in_range : ℕ → Searched → Bool

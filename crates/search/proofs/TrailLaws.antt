@@ -1,5 +1,6 @@
 -- What a search knows between two of its steps, where the table agrees with a plain list: the point's row is at an index yet to be read, or a fact F that stands for
 -- "not found" (of a reader: the point was absent at one of the lookup's moments; of the writer: it is absent). A step keeps it, and so does every call of the others.
+use Rattle.std.specs.Prelude.{Option, Some, None}
 use Prim.Native.Nat.{ℕ, ◌+◌, ◌≤◌, ◌<◌}
 use mathlib.Core.Bool.{true}
 use mathlib.Core.Path.{◌≡◌, refl, sym, ap, subst, ◌∙◌}
@@ -23,8 +24,6 @@ use Rattle.plain_list.proofs.IndexLaws.{Lowest}
 use Rattle.plain_list.proofs.Agreement.{Agrees, shown_row, row_shown}
 use Rattle.search.specs.declared.Searched.{Searched}
 use Rattle.search.specs.declared.Searched.TheVariants.{Going, Answered}
-use Rattle.search.specs.declared.SearchAnswer.{SearchAnswer}
-use Rattle.search.specs.declared.SearchAnswer.TheVariants.{Found, Unknown}
 use Rattle.search.specs.Access.{word_read}
 use Rattle.search.specs.Search.{search_access, first_probe, next_probe, holds_point, probe_advance, search_advance}
 use Rattle.search.proofs.SearchLaws.{next_low}
@@ -50,9 +49,9 @@ pub record FoundAt (F : Type 0) (m k q : ℕ) (rows : Rows) (place : Place) : Ty
   pub lowest : F ⊎ Lowest m k q (position_of m q place.index) place.index
 
 -- what it knows at its end
-abbrev pub Ended : Type 0 → ℕ → ℕ → ℕ → Rows → SearchAnswer → Type 0
-Ended F m k q rows (Found place) = FoundAt F m k q rows place
-Ended F m k q rows Unknown = F
+abbrev pub Ended : Type 0 → ℕ → ℕ → ℕ → Rows → Option Place → Type 0
+Ended F m k q rows (Some place) = FoundAt F m k q rows place
+Ended F m k q rows None = F
 
 -- what it knows after a step
 abbrev pub Knows : Type 0 → ℕ → ℕ → ℕ → Rows → Searched → Type 0

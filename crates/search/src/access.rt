@@ -1,5 +1,5 @@
 // Part 2 of a step: the one line that reads lent memory.
-ghost use Rattle.std.specs.Prelude.{◌≡◌, get_or};
+ghost use Rattle.std.specs.Prelude.{◌≡◌};
 ghost use Rattle.search.specs.Access.{word_read};
 
 // What a reading step touches.
@@ -18,15 +18,7 @@ pub fn word_read(slots: &[u64], access: ReadAccess) -> u64
     ensures { result ≡ word_read slots.now access }
 {
     match access {
-        ReadAccess::Nothing => 0,
-        ReadAccess::Reach => 0,
-        ReadAccess::Slot(slot) => word_at(slots, slot),
+        ReadAccess::Nothing | ReadAccess::Reach => 0,
+        ReadAccess::Slot(slot) => slots.get(slot as usize).copied().unwrap_or(0),
     }
-}
-
-fn word_at(slots: &[u64], slot: u32) -> u64
-    ensures { result ≡ get_or slots.now slot 0 }
-{
-    let at = slot as usize;
-    if at < slots.len() { slots[at] } else { 0 }
 }

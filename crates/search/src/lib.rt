@@ -14,14 +14,8 @@ use slot_words::word::{point_of, value_of};
 #[derive(Clone, Copy)]
 pub enum Searched {
     Going(Search),
-    Answered(SearchAnswer),
-}
-
-// What a search ends with.
-#[derive(Clone, Copy)]
-pub enum SearchAnswer {
-    Found(Place),
-    Unknown,
+    // with the place of the point, or none: refusal 7
+    Answered(Option<Place>),
 }
 
 // Part 1: the access that comes next.
@@ -52,12 +46,10 @@ fn first_probe(reach: u32) -> Searched
     ensures { result ≡ first_probe reach }
 {
     if reach == 0 {
-        return Searched::Answered(SearchAnswer::Unknown);
+        Searched::Answered(None)
+    } else {
+        Searched::Going(Search::Probing(Probe { reach, next: 1 }))
     }
-    Searched::Going(Search::Probing(Probe {
-        reach: reach,
-        next: 1,
-    }))
 }
 
 // A position has been read. A removal may have left it empty, so the search goes on to the reach that
@@ -66,21 +58,17 @@ fn first_probe(reach: u32) -> Searched
 fn probe_advance(probe: Probe, point: u32, word: u64) -> Searched
     ensures { result ≡ probe_advance point probe word }
 {
-    let index = probe.next;
-    let reach = probe.reach;
     if point_of(word) == point {
-        let place = Place {
-            index: index,
+        Searched::Answered(Some(Place {
+            index: probe.next,
             value: value_of(word),
-        };
-        return Searched::Answered(SearchAnswer::Found(place));
+        }))
+    } else if probe.next < probe.reach {
+        Searched::Going(Search::Probing(Probe {
+            next: probe.next + 1,
+            ..probe
+        }))
+    } else {
+        Searched::Answered(None)
     }
-    if index < reach {
-        let next = index + 1;
-        return Searched::Going(Search::Probing(Probe {
-            reach: reach,
-            next: next,
-        }));
-    }
-    Searched::Answered(SearchAnswer::Unknown)
 }

@@ -2,13 +2,11 @@
 ghost use Rattle.std.specs.Prelude.{◌≡◌};
 ghost use Rattle.slot_words.specs.Points.{valid_point, disabled};
 
-use conditions::is_within;
-
-#[tactic(auto, unfolding(crate::specs::Points::valid_point))]
+#[tactic(auto, unfolding(conditions::specs::Conditions::both, conditions::specs::Conditions::within, crate::specs::Points::valid_point))]
 pub fn is_valid_point(point: u32) -> bool
     ensures { result ≡ valid_point point }
 {
-    is_within(1, point, 2147483646)
+    (1..=2147483646).contains(&point)
 }
 
 // By the point's value.

@@ -17,5 +17,5 @@ pub fn value_of(word: u64) -> u32
 pub fn word_of(point: u32, value: u32) -> u64
     ensures { result ≡ word_of point value }
 {
-    point as u64 * 4294967296 + value as u64
+    u64::from(point) * 4294967296 + u64::from(value)
 }

@@ -5,26 +5,21 @@
 // answered.
 #![tactic(auto)]
 
-mod by_value;
-mod lending;
+ghost use Rattle.std.specs.Prelude.{◌^◌, ◌<◌};
+
 mod panels;
 mod runs;
 mod sums;
+mod ways;
 
-use runs::Tally;
+use runs::{Work, made};
 use std::io;
 use std::io::Read;
-
-// How the calls are made.
-#[derive(Clone, Copy)]
-pub(crate) enum Way {
-    ByValue,
-    InPlace,
-}
+use ways::{ByValue, InPlace};
 
 fn main(rt: HostRuntime) -> io::Result<()> {
     let mut input = rt.stdin();
-    for number in 1..25u32 {
+    for _ in 0..24 {
         let mut line = [0u8; 5];
         let length = read_full(&mut input, &mut line);
         if length < 4 {
@@ -39,61 +34,39 @@ fn main(rt: HostRuntime) -> io::Result<()> {
 fn read_full<R: Read>(from: &mut R, bytes: &mut [u8]) -> usize {
     let mut filled = 0;
     while filled < bytes.len() {
-        let count = match from.read(&mut bytes[filled..]) {
-            Ok(count) => count,
-            Err(_) => 0,
-        };
-        if count == 0 {
-            break;
+        match from.read(&mut bytes[filled..]) {
+            Ok(0) | Err(_) => break,
+            Ok(count) => filled += count,
         }
-        filled += count;
     }
     filled
 }
 
-fn measure(rt: &impl Print, line: [u8; 5]) -> io::Result<()> {
-    let way = way_of(line[1]);
-    let times = power_of_ten(line[3]);
-    if line[2] == b'L' {
-        large(rt, line[0], way, times)
-    } else {
-        small(rt, line[0], way, times)
+fn measure(rt: &impl Print, [work, way, size, digit, _]: [u8; 5]) -> io::Result<()> {
+    let work = Work::from(work);
+    let times = power_of_ten(digit);
+    match size {
+        b'L' => sized::<4096>(rt, work, way, times),
+        _ => sized::<16>(rt, work, way, times),
     }
-}
-
-fn way_of(letter: u8) -> Way {
-    if letter == b'P' {
-        return Way::InPlace;
-    }
-    Way::ByValue
 }
 
 fn power_of_ten(digit: u8) -> u32 {
     match digit {
-        b'1' => 10,
-        b'2' => 100,
-        b'3' => 1000,
-        b'4' => 10000,
-        b'5' => 100000,
-        b'6' => 1000000,
-        b'7' => 10000000,
-        b'8' => 100000000,
+        b'1'..=b'8' => 10u32.pow(u32::from(digit - b'0')),
         _ => 1,
     }
 }
 
-fn small(rt: &impl Print, letter: u8, way: Way, times: u32) -> io::Result<()> {
-    let mut slots = [0u64; 16];
-    panels::fill(&mut slots, 16);
-    report(rt, runs::made(letter, way, 16, &mut slots, times))
-}
-
-fn large(rt: &impl Print, letter: u8, way: Way, times: u32) -> io::Result<()> {
-    let mut slots = [0u64; 4096];
-    panels::fill(&mut slots, 4096);
-    report(rt, runs::made(letter, way, 4096, &mut slots, times))
-}
-
-fn report(rt: &impl Print, tally: Tally) -> io::Result<()> {
+fn sized<const M: usize>(rt: &impl Print, work: Work, way: u8, times: u32) -> io::Result<()>
+    requires { M < 2 ^ 32 }
+{
+    let m = M as u32;
+    let mut slots = [0u64; M];
+    panels::fill(&mut slots, m);
+    let tally = match way {
+        b'P' => made::<InPlace>(work, m, &mut slots, times),
+        _ => made::<ByValue>(work, m, &mut slots, times),
+    };
     println!(rt; "{} {}", tally.calls, tally.sum)
 }

@@ -11,9 +11,8 @@ pub(crate) const POINT: u32 = 17;
 // All slots are taken, by points that nobody looks up, but the one at the last position of `POINT`.
 pub(crate) fn fill(slots: &mut [u64], m: u32) {
     let free = hash::position(m, POINT, 8) as usize;
-    let n = slots.len();
-    for at in 0..n {
-        slots[at] = filling(at, free);
+    for (at, slot) in slots.iter_mut().enumerate() {
+        *slot = filling(at, free);
     }
 }
 
@@ -41,19 +40,16 @@ pub(crate) fn readers_at_work(m: u32, slots: &[u64]) -> Record {
 
 fn two_started(panel: Record, slots: &[u64], i: u32) -> Record {
     let reader = i % 8 * 2;
-    let looking = start_lookup(panel, slots, reader, reader + 1);
-    let walking = start_walk(looking.panel, slots, reader + 1);
-    walking.panel
+    let looking = start_lookup(panel, slots, reader, reader + 1).panel;
+    start_walk(looking, slots, reader + 1).panel
 }
 
 // All readers at work, and the writer at a put that takes more steps than a lookup.
 pub(crate) fn all_at_work(m: u32, slots: &[u64]) -> Record {
-    let putting = start_put(readers_at_work(m, slots), slots, POINT, 7);
-    putting.panel
+    start_put(readers_at_work(m, slots), slots, POINT, 7).panel
 }
 
 // Reader 5 at a walk, which takes m steps, and nobody else.
 pub(crate) fn one_at_work(m: u32, slots: &[u64]) -> Record {
-    let walking = start_walk(idle_panel(m, 8), slots, 5);
-    walking.panel
+    start_walk(idle_panel(m, 8), slots, 5).panel
 }

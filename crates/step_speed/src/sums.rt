@@ -1,50 +1,60 @@
-// What an answer adds to the sum that is printed. A refusal adds a million, so that none goes unseen.
-use answers::{Ending, StartAnswer, StepAnswer, StepResult, TurnAnswer};
+// What an answer adds to the sum that is printed.
+use answers::{Ending, Served, StepResult};
+use refusal::Refusal;
 use slot_words::word::value_of;
 
-pub(crate) fn with_step(sum: u64, answer: StepAnswer) -> u64 {
-    match answer {
-        StepAnswer::Stepped(result) => sum.wrapping_add(worth(result)),
-        StepAnswer::Refused(_) => sum.wrapping_add(1000000),
+pub(crate) trait Worth {
+    fn worth(self) -> u64;
+}
+
+// A refusal adds a million, so that none goes unseen.
+impl<T: Worth> Worth for Result<T, Refusal> {
+    fn worth(self) -> u64 {
+        match self {
+            Ok(given) => given.worth(),
+            Err(_) => 1000000,
+        }
+    }
+}
+
+// A start.
+impl Worth for () {
+    fn worth(self) -> u64 {
+        1
+    }
+}
+
+impl Worth for StepResult {
+    fn worth(self) -> u64 {
+        match self {
+            StepResult::Underway => 1,
+            StepResult::Ended(completion) => {
+                completion
+                    .ending
+                    .worth()
+                    .wrapping_add(u64::from(completion.steps))
+            }
+            StepResult::Walked(word) | StepResult::WalkedLast(word) => u64::from(value_of(word)),
+        }
     }
 }
 
 // The party's number counts too.
-pub(crate) fn with_turn(sum: u64, answer: TurnAnswer) -> u64 {
-    match answer {
-        TurnAnswer::Served { party, result } => {
-            sum.wrapping_add(party as u64).wrapping_add(worth(result))
+impl Worth for Served {
+    fn worth(self) -> u64 {
+        u64::from(self.party).wrapping_add(self.result.worth())
+    }
+}
+
+impl Worth for Ending {
+    fn worth(self) -> u64 {
+        match self {
+            Ending::LookedUp(number) | Ending::Changed(number) | Ending::Removed(number) => {
+                u64::from(number)
+            }
+            Ending::Placed(spot) => u64::from(spot.slot),
+            Ending::NoPerch => 6,
+            Ending::Unknown => 7,
         }
-        TurnAnswer::Refused(_) => sum.wrapping_add(1000000),
-    }
-}
-
-pub(crate) fn with_start(sum: u64, answer: StartAnswer) -> u64 {
-    match answer {
-        StartAnswer::Started => sum.wrapping_add(1),
-        StartAnswer::Refused(_) => sum.wrapping_add(1000000),
-    }
-}
-
-fn worth(res: StepResult) -> u64 {
-    match res {
-        StepResult::Underway => 1,
-        StepResult::Ended(completion) => {
-            let ending = completion.ending;
-            ending_worth(ending).wrapping_add(completion.steps as u64)
-        }
-        StepResult::Walked(word) => value_of(word) as u64,
-        StepResult::WalkedLast(word) => value_of(word) as u64,
-    }
-}
-
-fn ending_worth(ending: Ending) -> u64 {
-    match ending {
-        Ending::LookedUp(value) => value as u64,
-        Ending::Placed(spot) => spot.slot as u64,
-        Ending::Changed(value) => value as u64,
-        Ending::Removed(reach) => reach as u64,
-        Ending::NoPerch => 6,
-        Ending::Unknown => 7,
     }
 }

@@ -1,6 +1,5 @@
 -- Text put into a buffer byte by byte, and that with room for it all of it stands behind what was in use.
 use Prim.Native.Nat.{ℕ, suc, ◌+◌, ◌<◌, ◌≤◌}
-use mathlib.Core.Bool.{Bool, cond}
 use mathlib.Core.List.{List, [], ◌∷◌, ◌++◌}
 use mathlib.Core.Path.{◌≡◌, refl, sym, ap, ◌∙◌}
 use native.Mathlib.Numerals.{add-one}
@@ -22,19 +21,9 @@ unfolding with_bytes
 one_after_another before [] second = refl
 one_after_another before (byte ∷ first) second = one_after_another (with_byte before byte) first second
 
-pub behind : {middle after : Filled} (before : Filled) (first second : List ℕ) → middle ≡ with_bytes before first → after ≡ with_bytes middle second → after ≡ with_bytes before (first ++ second)
-behind before first second e f = f ∙ ap (λ (b : Filled). with_bytes b second) e ∙ sym (one_after_another before first second)
-
--- one byte is a text too
-pub one_byte : {after : Filled} (before : Filled) (byte : ℕ) → after ≡ with_byte before byte → after ≡ with_bytes before (byte ∷ [])
-unfolding with_bytes
-one_byte before byte e = e
-
 byte_fits : (used : ℕ) (bytes : List ℕ) (byte : ℕ) → used < length bytes → with_byte (filled_by used bytes) byte ≡ filled_by (suc used) (set bytes used byte)
 unfolding with_byte
-byte_fits used bytes byte room =
-    ap (λ (b : Bool). cond b (filled_by (used + 1) (set bytes used byte)) (filled_by used bytes)) (lt-ltb used (length bytes) room)
-    ∙ ap (λ (n : ℕ). filled_by n (set bytes used byte)) (add-one used)
+byte_fits used bytes byte room = rw (lt-ltb used (length bytes) room) (ap (λ (n : ℕ). filled_by n (set bytes used byte)) (add-one used))
 
 fits : (text : List ℕ) (used : ℕ) (bytes : List ℕ) → used + length text ≤ length bytes → with_bytes (filled_by used bytes) text ≡ filled_by (used + length text) (sets bytes used text)
 unfolding with_bytes

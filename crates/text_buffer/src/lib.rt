@@ -2,10 +2,13 @@
 // how many are then. A byte for which there is no room is left out.
 #![tactic(auto)]
 
+mod buffer;
 pub mod output;
 
 ghost use Rattle.std.specs.Prelude.{◌≡◌};
 ghost use Rattle.text_buffer.specs.Filling.{filled_by, with_byte, with_bytes, decimal_of, spaced};
+
+pub use buffer::TextBuffer;
 
 #[tactic(auto, unfolding(crate::specs::Filling::with_byte))]
 pub fn byte(filled: usize, buffer: &mut [u8], byte: u8) -> usize
@@ -23,31 +26,17 @@ pub fn text(filled: usize, buffer: &mut [u8], bytes: &[u8]) -> usize
     ensures { filled_by result buffer.new ≡ with_bytes (filled_by filled buffer.old) bytes.now }
 {
     let mut after = filled;
-    let mut i = 0;
-    while i < bytes.len() {
-        after = byte(after, buffer, bytes[i]);
-        i += 1;
+    for next in bytes {
+        after = byte(after, buffer, *next);
     }
     after
 }
 
-// A number in decimal digits. They are made from the last one on.
+// A number in decimal digits.
 pub fn decimal(filled: usize, buffer: &mut [u8], n: u64) -> usize
     ensures { filled_by result buffer.new ≡ with_bytes (filled_by filled buffer.old) (decimal_of n) }
 {
-    // no number of 64 bits has more
-    let mut digits = [0u8; 20];
-    let mut first = 20;
-    let mut left = n;
-    while first > 0 {
-        first -= 1;
-        digits[first] = b'0' + (left % 10) as u8;
-        if left < 10 {
-            return text(filled, buffer, &digits[first..]);
-        }
-        left /= 10;
-    }
-    text(filled, buffer, &digits)
+    text(filled, buffer, itoa::Buffer::new().format(n).as_bytes())
 }
 
 // A space and a number.

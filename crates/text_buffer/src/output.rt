@@ -25,10 +25,8 @@ pub fn room<W: Write>(to: &mut W, filled: usize, buffer: &[u8], line: usize) -> 
     ensures written { OnOk result (Appends (W.contents to.old) (W.contents to.new) (written_for_room filled buffer.now line)) }
     ensures failed { OnErr result (length buffer.now ≤ filled + line) }
 {
-    if filled < buffer.len() {
-        if line < buffer.len() - filled {
-            return Ok(filled);
-        }
+    if line < buffer.len().saturating_sub(filled) {
+        return Ok(filled);
     }
     flush(to, filled, buffer)
 }

@@ -7,13 +7,12 @@ mod disabled;
 mod fresh;
 mod list;
 mod operations;
-mod printing;
 mod ranges;
 mod readers;
+mod shown;
 mod unreached;
 mod writer_refusals;
 
-use crate::printing::{line_end, number, refusal, text};
 use refusal::Refusal;
 use std::io;
 
@@ -22,8 +21,10 @@ fn main(rt: HostRuntime) -> io::Result<()> {
 }
 
 fn run(rt: &impl Print) -> io::Result<()> {
-    generator(rt)?;
-    unseen_word(rt)?;
+    // The published check z(10000).
+    println!(rt; "z 10000 {}", hash::generated(10000))?;
+    // The one word of the refusal table that no call of a history is refused with.
+    println!(rt; "refusal {}", Refusal::Short)?;
     fresh::run(rt)?;
     readers::run(rt)?;
     ranges::run(rt)?;
@@ -31,19 +32,4 @@ fn run(rt: &impl Print) -> io::Result<()> {
     writer_refusals::run(rt)?;
     unreached::run(rt)?;
     list::run(rt)
-}
-
-// The published check z(10000).
-fn generator(rt: &impl Print) -> io::Result<()> {
-    text(rt, b"z")?;
-    number(rt, 10000)?;
-    number(rt, hash::generated(10000))?;
-    line_end(rt)
-}
-
-// The one word of the refusal table that no call of a history is refused with.
-fn unseen_word(rt: &impl Print) -> io::Result<()> {
-    text(rt, b"refusal")?;
-    refusal(rt, Refusal::Short)?;
-    line_end(rt)
 }

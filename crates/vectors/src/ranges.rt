@@ -1,13 +1,12 @@
 // A record with each of its fields in turn out of range, and at the end of its range: a table's rows.
-use crate::printing::{line_end, number, text};
-use crate::readers::start_answer;
+use crate::shown::Answer;
 use reader_starts::start_walk;
 use record::parts::{
     fresh_record, with_count, with_place, with_reach, with_station, with_work, with_writer,
 };
 use record::{
-    Alteration, Change, ChangeStage, Command, CommandAnswer, Lookup, Masks, Place, Probe, Put,
-    PutStage, ReaderWork, Record, Removal, RemovalStage, Search, Station, Walk, WriterWork,
+    Alteration, Change, ChangeStage, Command, Lookup, Masks, Place, Probe, Put, PutStage,
+    ReaderWork, Record, Removal, RemovalStage, Search, Station, Walk, WriterWork,
 };
 use std::io;
 
@@ -127,23 +126,14 @@ const CASES: [Altered; 73] = [
     Altered::Station(32, 0, 0, 3),
 ];
 
+// What the start of reader 15's walk is answered, with 8 slots.
 pub(crate) fn run(rt: &impl Print) -> io::Result<()> {
-    for row in 0..73u32 {
-        judged(rt, row, CASES[row as usize])?;
+    for (row, altered) in CASES.iter().enumerate() {
+        let begun = start_walk(record_with(*altered), &[0; 8], 15);
+        let answer = Answer(begun.answer.map(|()| "started"));
+        println!(rt; "range {row}: {answer}")?;
     }
     Ok(())
-}
-
-// What the start of reader 15's walk is answered, with 8 slots.
-fn judged(rt: &impl Print, row: u32, altered: Altered) -> io::Result<()> {
-    let slots = [0u64; 8];
-    text(rt, b"range")?;
-    number(rt, row)?;
-    text(rt, b":")?;
-    let begun = start_walk(record_with(altered), &slots, 15);
-    let answer = begun.answer;
-    start_answer(rt, answer)?;
-    line_end(rt)
 }
 
 fn record_with(altered: Altered) -> Record {
@@ -159,7 +149,7 @@ fn record_with(altered: Altered) -> Record {
         }
         Altered::Probe(reach, next) => with_work(panel, 0, lookup(1, probing(reach, next), 0)),
         Altered::LookupSteps(steps) => with_work(panel, 0, lookup(1, Search::Unread, steps)),
-        Altered::Walk(next) => with_work(panel, 14, ReaderWork::Walking(Walk { next: next })),
+        Altered::Walk(next) => with_work(panel, 14, ReaderWork::Walking(Walk { next })),
         Altered::Station(station, count, point, action) => {
             with_station(panel, station, last(count, point, action))
         }
@@ -168,26 +158,23 @@ fn record_with(altered: Altered) -> Record {
 }
 
 fn probing(reach: u32, next: u32) -> Search {
-    Search::Probing(Probe {
-        reach: reach,
-        next: next,
-    })
+    Search::Probing(Probe { reach, next })
 }
 
 fn lookup(point: u32, search: Search, steps: u32) -> ReaderWork {
     ReaderWork::LookingUp(Lookup {
-        point: point,
-        search: search,
-        steps: steps,
+        point,
+        search,
+        steps,
     })
 }
 
 fn last(count: u32, point: u32, action: u32) -> Station {
     Station {
         number: count,
-        point: point,
-        action: action,
-        answer: CommandAnswer::Unknown,
+        point,
+        action,
+        answer: None,
     }
 }
 
@@ -198,13 +185,15 @@ fn writer_work(altered: Altered) -> WriterWork {
         Altered::PutFound(index) => put(1, PutStage::Found(place(index)), 0),
         Altered::PutChosen(index) => put(1, PutStage::Chosen(index), 0),
         Altered::PutSteps(steps) => put(1, PutStage::Scanning(1), steps),
-        Altered::Change(point) => change(point, masks(), Search::Unread, 0),
-        Altered::ChangeProbe(reach, next) => change(1, masks(), probing(reach, next), 0),
-        Altered::ChangeFound(index) => changed(index),
-        Altered::Command(station, count, action) => {
-            change(1, command(station, count, action), Search::Unread, 0)
+        Altered::Change(point) => change(point, masks(), unread(), 0),
+        Altered::ChangeProbe(reach, next) => {
+            change(1, masks(), ChangeStage::Searching(probing(reach, next)), 0)
         }
-        Altered::ChangeSteps(steps) => change(1, masks(), Search::Unread, steps),
+        Altered::ChangeFound(index) => change(1, masks(), ChangeStage::Found(place(index)), 0),
+        Altered::Command(station, count, action) => {
+            change(1, command(station, count, action), unread(), 0)
+        }
+        Altered::ChangeSteps(steps) => change(1, masks(), unread(), steps),
         Altered::Removal(point) => removal(point, RemovalStage::Lowering, 0),
         Altered::RemovalProbe(reach, next) => {
             removal(1, RemovalStage::Searching(probing(reach, next)), 0)
@@ -217,16 +206,16 @@ fn writer_work(altered: Altered) -> WriterWork {
 
 fn put(point: u32, stage: PutStage, steps: u32) -> WriterWork {
     WriterWork::Putting(Put {
-        point: point,
+        point,
         value: 4294967295,
-        stage: stage,
-        steps: steps,
+        stage,
+        steps,
     })
 }
 
 fn place(index: u32) -> Place {
     Place {
-        index: index,
+        index,
         value: 4294967295,
     }
 }
@@ -240,34 +229,30 @@ fn masks() -> Alteration {
 
 fn command(station: u32, count: u32, action: u32) -> Alteration {
     Alteration::Commanded(Command {
-        station: station,
+        station,
         number: count,
-        action: action,
+        action,
     })
 }
 
-fn change(point: u32, alteration: Alteration, search: Search, steps: u32) -> WriterWork {
-    WriterWork::Changing(Change {
-        point: point,
-        alteration: alteration,
-        stage: ChangeStage::Searching(search),
-        steps: steps,
-    })
+// A change that has not read the reach.
+fn unread() -> ChangeStage {
+    ChangeStage::Searching(Search::Unread)
 }
 
-fn changed(index: u32) -> WriterWork {
+fn change(point: u32, alteration: Alteration, stage: ChangeStage, steps: u32) -> WriterWork {
     WriterWork::Changing(Change {
-        point: 1,
-        alteration: masks(),
-        stage: ChangeStage::Found(place(index)),
-        steps: 0,
+        point,
+        alteration,
+        stage,
+        steps,
     })
 }
 
 fn removal(point: u32, stage: RemovalStage, steps: u32) -> WriterWork {
     WriterWork::Removing(Removal {
-        point: point,
-        stage: stage,
-        steps: steps,
+        point,
+        stage,
+        steps,
     })
 }

@@ -1,7 +1,5 @@
 // Lookups and walks over slots that no history leads to, and refusal 1 before the others.
-use crate::operations::step_answer;
-use crate::printing::{line_end, number, refused, text};
-use answers::StartAnswer;
+use crate::shown::{Answer, Given};
 use reader_starts::{start_lookup, start_walk};
 use reader_step::step_reader;
 use record::parts::{fresh_record, with_reach, with_work};
@@ -11,22 +9,25 @@ use std::io;
 
 pub(crate) fn run(rt: &impl Print) -> io::Result<()> {
     let slots = stored();
-    over(rt, &slots)?;
-    short_of_a_slot(rt)?;
+    // Points are stored above the reach, and none up to it.
+    lookup(rt, panel_of(2), &slots, 17)?;
+    lookup(rt, panel_of(0), &slots, 1)?;
+    lookup(rt, panel_of(4), &slots, 2147483646)?;
+    refusals(rt, panel_of(5), &slots)?;
+    refusals(rt, panel_of(3), &slots)?;
+    // a slot too few
+    refusals(rt, panel_of(3), &[0; 7])?;
     nobodys_points(rt)?;
-    at_its_bound(rt)?;
-    one_slot(rt)
-}
-
-fn over(rt: &impl Print, slots: &[u64]) -> io::Result<()> {
-    below_the_reach(rt, slots)?;
-    refusals(rt, panel_of(5), slots)?;
-    refusals(rt, panel_of(3), slots)
-}
-
-fn short_of_a_slot(rt: &impl Print) -> io::Result<()> {
-    let slots = [0u64; 7];
-    refusals(rt, panel_of(3), &slots)
+    at_its_bound(rt, &slots)?;
+    // A walk over a slot that is all ones.
+    let slots = [u64::MAX];
+    steps(
+        rt,
+        begin_walk(rt, fresh_record(1, 1), &slots, 7)?,
+        &slots,
+        7,
+        2,
+    )
 }
 
 // A panel of 8 slots and 4 functions with this reach, everyone idle.
@@ -43,26 +44,14 @@ fn stored() -> [u64; 8] {
     slots
 }
 
-pub(crate) fn start_answer(rt: &impl Print, answer: StartAnswer) -> io::Result<()> {
-    match answer {
-        StartAnswer::Started => text(rt, b" started"),
-        StartAnswer::Refused(r) => refused(rt, r),
-    }
-}
-
-fn step(rt: &impl Print, panel: Record, slots: &[u64], reader: u32) -> io::Result<Record> {
-    let stepped = step_reader(panel, slots, reader);
-    let answer = stepped.answer;
-    step_answer(rt, answer)?;
-    Ok(stepped.panel)
-}
-
 fn steps(rt: &impl Print, panel: Record, slots: &[u64], reader: u32, count: u32) -> io::Result<()> {
     let mut now = panel;
     for _ in 0..count {
-        now = step(rt, now, slots, reader)?;
+        let stepped = step_reader(now, slots, reader);
+        print!(rt; " {}", Answer(stepped.answer.map(Given)))?;
+        now = stepped.panel;
     }
-    line_end(rt)
+    println!(rt; "")
 }
 
 fn begin_lookup(
@@ -72,23 +61,16 @@ fn begin_lookup(
     reader: u32,
     point: u32,
 ) -> io::Result<Record> {
-    text(rt, b"lookup")?;
-    number(rt, reader)?;
-    number(rt, point)?;
-    text(rt, b":")?;
     let begun = start_lookup(panel, slots, reader, point);
-    let answer = begun.answer;
-    start_answer(rt, answer)?;
+    let answer = Answer(begun.answer.map(|()| "started"));
+    print!(rt; "lookup {reader} {point}: {answer}")?;
     Ok(begun.panel)
 }
 
 fn begin_walk(rt: &impl Print, panel: Record, slots: &[u64], reader: u32) -> io::Result<Record> {
-    text(rt, b"walk")?;
-    number(rt, reader)?;
-    text(rt, b":")?;
     let begun = start_walk(panel, slots, reader);
-    let answer = begun.answer;
-    start_answer(rt, answer)?;
+    let answer = Answer(begun.answer.map(|()| "started"));
+    print!(rt; "walk {reader}: {answer}")?;
     Ok(begun.panel)
 }
 
@@ -97,60 +79,33 @@ fn lookup(rt: &impl Print, panel: Record, slots: &[u64], point: u32) -> io::Resu
     steps(rt, begin_lookup(rt, panel, slots, 0, point)?, slots, 0, 6)
 }
 
-// Points are stored above the reach, and none up to it.
-fn below_the_reach(rt: &impl Print, slots: &[u64]) -> io::Result<()> {
-    lookup(rt, panel_of(2), slots, 17)?;
-    lookup(rt, panel_of(0), slots, 1)?;
-    lookup(rt, panel_of(4), slots, 2147483646)
-}
-
 // Words whose upper half is no valid point match no point.
 fn nobodys_points(rt: &impl Print) -> io::Result<()> {
     let mut slots = [0u64; 8];
     slots[0] = word_of(0, 5);
     slots[4] = word_of(2147483647, 5);
     slots[2] = word_of(4294967295, 5);
-    no_match(rt, &slots)
-}
-
-fn no_match(rt: &impl Print, slots: &[u64]) -> io::Result<()> {
-    lookup(rt, panel_of(4), slots, 1)?;
-    lookup(rt, panel_of(4), slots, 9)
+    lookup(rt, panel_of(4), &slots, 1)?;
+    lookup(rt, panel_of(4), &slots, 9)
 }
 
 // A lookup that counts as many steps as it may take before its first: the count stays.
-fn at_its_bound(rt: &impl Print) -> io::Result<()> {
+fn at_its_bound(rt: &impl Print, slots: &[u64]) -> io::Result<()> {
     let work = ReaderWork::LookingUp(Lookup {
         point: 17,
         search: Search::Unread,
         steps: 5,
     });
-    text(rt, b"lookup at its bound:")?;
-    steps(rt, with_work(panel_of(3), 0, work), &stored(), 0, 6)
-}
-
-// A walk over a slot that is all ones.
-fn one_slot(rt: &impl Print) -> io::Result<()> {
-    let slots = [18446744073709551615u64; 1];
-    only_step(rt, &slots)
-}
-
-fn only_step(rt: &impl Print, slots: &[u64]) -> io::Result<()> {
-    steps(
-        rt,
-        begin_walk(rt, fresh_record(1, 1), slots, 7)?,
-        slots,
-        7,
-        2,
-    )
+    print!(rt; "lookup at its bound:")?;
+    steps(rt, with_work(panel_of(3), 0, work), slots, 0, 6)
 }
 
 // Each call with the faults that are judged behind refusal 1.
 fn refusals(rt: &impl Print, panel: Record, slots: &[u64]) -> io::Result<()> {
     begin_lookup(rt, panel, slots, 16, 0)?;
-    line_end(rt)?;
+    println!(rt; "")?;
     begin_walk(rt, panel, slots, 4294967295)?;
-    line_end(rt)?;
-    text(rt, b"step:")?;
+    println!(rt; "")?;
+    print!(rt; "step:")?;
     steps(rt, panel, slots, 16, 1)
 }

@@ -10,21 +10,13 @@ use std::io;
 
 pub(crate) fn run(rt: &impl Print) -> io::Result<()> {
     let mut slots = [0u64; 8];
-    over(rt, &mut slots)
-}
-
-fn over(rt: &impl Print, slots: &mut [u64]) -> io::Result<()> {
-    counts(rt, slots)?;
-    reach_lowered(rt, slots)?;
-    stores(rt, slots)?;
-    steps_at_bounds(rt, slots)
-}
-
-fn counts(rt: &impl Print, slots: &mut [u64]) -> io::Result<()> {
-    full_count(rt, slots)?;
-    empty_count(rt, slots)?;
-    below_the_reach(rt, slots)?;
-    above_the_reach(rt, slots)
+    full_count(rt, &mut slots)?;
+    empty_count(rt, &mut slots)?;
+    below_the_reach(rt, &mut slots)?;
+    above_the_reach(rt, &mut slots)?;
+    reach_lowered(rt, &mut slots)?;
+    stores(rt, &mut slots)?;
+    steps_at_bounds(rt, &mut slots)
 }
 
 // Point 1 in slot 0.
@@ -66,62 +58,52 @@ fn above_the_reach(rt: &impl Print, slots: &mut [u64]) -> io::Result<()> {
 // A put compares its index with the reach again in each step.
 fn reach_lowered(rt: &impl Print, slots: &mut [u64]) -> io::Result<()> {
     let panel = stored(rt, slots)?;
-    let raised = step(rt, putting(panel, PutStage::Chosen(3)), slots)?;
-    finish_with_reach(rt, raised, slots, 2)
-}
-
-fn finish_with_reach(
-    rt: &impl Print,
-    panel: Record,
-    slots: &mut [u64],
-    reach: u32,
-) -> io::Result<()> {
-    let lowered = altered(rt, with_reach(panel, reach), slots)?;
+    let raised = step(rt, putting(panel, PutStage::Chosen(3), 0), slots)?;
+    let lowered = altered(rt, with_reach(raised, 2), slots)?;
     finish(rt, lowered, slots)?;
     Ok(())
 }
 
-fn putting(panel: Record, stage: PutStage) -> Record {
+fn putting(panel: Record, stage: PutStage, steps: u32) -> Record {
     let work = WriterWork::Putting(Put {
         point: 9,
         value: 6,
-        stage: stage,
-        steps: 0,
+        stage,
+        steps,
     });
     with_writer(panel, work)
 }
 
-// Position 1 of point 9 is slot 0, where point 1 is.
+// Position 1 of point 9 is slot 0, where point 1 is. The place found later holds no such point and value.
 fn stores(rt: &impl Print, slots: &mut [u64]) -> io::Result<()> {
     let panel = stored(rt, slots)?;
-    let taken = finish(rt, putting(panel, PutStage::Chosen(1)), slots)?;
-    found(rt, taken, slots, Place { index: 4, value: 3 })
-}
-
-// The place found holds no such point and value.
-fn found(rt: &impl Print, panel: Record, slots: &mut [u64], place: Place) -> io::Result<()> {
-    let updated = finish(rt, putting(panel, PutStage::Found(place)), slots)?;
-    let changed = finish(rt, changing(updated, place), slots)?;
-    finish(rt, removing(changed, place), slots)?;
+    let taken = finish(rt, putting(panel, PutStage::Chosen(1), 0), slots)?;
+    let place = Place { index: 4, value: 3 };
+    let updated = finish(rt, putting(taken, PutStage::Found(place), 0), slots)?;
+    let changed = finish(rt, changing(updated, ChangeStage::Found(place), 0), slots)?;
+    finish(
+        rt,
+        removing(changed, 17, RemovalStage::Found(place), 0),
+        slots,
+    )?;
     Ok(())
 }
 
-fn changing(panel: Record, place: Place) -> Record {
-    let alteration = Alteration::Given(Masks { keep: 1, flip: 8 });
+fn changing(panel: Record, stage: ChangeStage, steps: u32) -> Record {
     let work = WriterWork::Changing(Change {
         point: 9,
-        alteration: alteration,
-        stage: ChangeStage::Found(place),
-        steps: 0,
+        alteration: Alteration::Given(Masks { keep: 1, flip: 8 }),
+        stage,
+        steps,
     });
     with_writer(panel, work)
 }
 
-fn removing(panel: Record, place: Place) -> Record {
+fn removing(panel: Record, point: u32, stage: RemovalStage, steps: u32) -> Record {
     let work = WriterWork::Removing(Removal {
-        point: 17,
-        stage: RemovalStage::Found(place),
-        steps: 0,
+        point,
+        stage,
+        steps,
     });
     with_writer(panel, work)
 }
@@ -129,41 +111,10 @@ fn removing(panel: Record, place: Place) -> Record {
 // Operations that count as many steps as they may take, and go on: the count stays.
 fn steps_at_bounds(rt: &impl Print, slots: &mut [u64]) -> io::Result<()> {
     let panel = stored(rt, slots)?;
-    let placed = finish(rt, put_at_bound(panel), slots)?;
-    more_at_bounds(rt, placed, slots)
-}
-
-fn more_at_bounds(rt: &impl Print, panel: Record, slots: &mut [u64]) -> io::Result<()> {
-    let changed = finish(rt, change_at_bound(panel), slots)?;
-    finish(rt, removal_at_bound(changed), slots)?;
+    let placed = finish(rt, putting(panel, PutStage::Scanning(1), 10), slots)?;
+    let unread = ChangeStage::Searching(Search::Unread);
+    let changed = finish(rt, changing(placed, unread, 6), slots)?;
+    let unread = RemovalStage::Searching(Search::Unread);
+    finish(rt, removing(changed, 9, unread, 7), slots)?;
     Ok(())
-}
-
-fn put_at_bound(panel: Record) -> Record {
-    let work = WriterWork::Putting(Put {
-        point: 9,
-        value: 6,
-        stage: PutStage::Scanning(1),
-        steps: 10,
-    });
-    with_writer(panel, work)
-}
-
-fn change_at_bound(panel: Record) -> Record {
-    let work = WriterWork::Changing(Change {
-        point: 9,
-        alteration: Alteration::Given(Masks { keep: 1, flip: 8 }),
-        stage: ChangeStage::Searching(Search::Unread),
-        steps: 6,
-    });
-    with_writer(panel, work)
-}
-
-fn removal_at_bound(panel: Record) -> Record {
-    let work = WriterWork::Removing(Removal {
-        point: 9,
-        stage: RemovalStage::Searching(Search::Unread),
-        steps: 7,
-    });
-    with_writer(panel, work)
 }

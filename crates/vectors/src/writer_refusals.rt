@@ -7,43 +7,17 @@ use std::io;
 
 pub(crate) fn run(rt: &impl Print) -> io::Result<()> {
     let mut slots = [0u64; 8];
-    let engaged = over(rt, &mut slots)?;
-    short_of_a_slot(rt, engaged)
-}
-
-fn over(rt: &impl Print, slots: &mut [u64]) -> io::Result<Record> {
-    let idle = panel_over(rt, slots, 8, 4)?;
-    steps(rt, idle, slots)?;
-    engaged_writer(rt, idle, slots)
-}
-
-fn engaged_writer(rt: &impl Print, idle: Record, slots: &mut [u64]) -> io::Result<Record> {
-    let begun = begin_put(rt, idle, slots, 9, 6)?;
-    let engaged = step(rt, begun, slots)?;
-    all_starts(rt, engaged, slots)?;
-    finish(rt, engaged, slots)?;
-    Ok(engaged)
-}
-
-fn steps(rt: &impl Print, idle: Record, slots: &mut [u64]) -> io::Result<()> {
-    step(rt, with_reach(idle, 5), slots)?;
-    step(rt, idle, slots)?;
-    Ok(())
-}
-
-fn all_starts(rt: &impl Print, engaged: Record, slots: &[u64]) -> io::Result<()> {
-    starts(rt, with_reach(engaged, 5), slots)?;
-    starts(rt, engaged, slots)
-}
-
-fn short_of_a_slot(rt: &impl Print, engaged: Record) -> io::Result<()> {
-    let mut slots = [0u64; 7];
-    refused(rt, engaged, &mut slots)
-}
-
-fn refused(rt: &impl Print, engaged: Record, slots: &mut [u64]) -> io::Result<()> {
-    starts(rt, engaged, slots)?;
-    step(rt, engaged, slots)?;
+    let idle = panel_over(rt, &mut slots, 8, 4)?;
+    step(rt, with_reach(idle, 5), &mut slots)?;
+    step(rt, idle, &mut slots)?;
+    let begun = begin_put(rt, idle, &slots, 9, 6)?;
+    let engaged = step(rt, begun, &mut slots)?;
+    starts(rt, with_reach(engaged, 5), &slots)?;
+    starts(rt, engaged, &slots)?;
+    finish(rt, engaged, &mut slots)?;
+    let mut one_less = [0u64; 7];
+    starts(rt, engaged, &one_less)?;
+    step(rt, engaged, &mut one_less)?;
     Ok(())
 }
 

@@ -1,4 +1,5 @@
 -- Request N2: "a lookup that finds its point on position i while nothing else moves says i + 1"; one that does not find it says the reach + 1.
+use Rattle.std.specs.Prelude.{Some, None}
 use Prim.Native.Nat.{ℕ, zero, suc, ◌+◌, ◌≤◌, ◌<◌}
 use mathlib.Core.Bool.{Bool, true, false, cond}
 use mathlib.Core.List.{List}
@@ -13,7 +14,6 @@ use Rattle.record.specs.declared.Record.{Record}
 use Rattle.record.specs.declared.Search.TheVariants.{Unread, Probing}
 use Rattle.search.specs.declared.Searched.{Searched}
 use Rattle.search.specs.declared.Searched.TheVariants.{Going, Answered}
-use Rattle.search.specs.declared.SearchAnswer.TheVariants.{Found, Unknown}
 use Rattle.search.specs.Access.{word_read}
 use Rattle.search.specs.Search.{search_access, first_probe, next_probe, holds_point, probe_advance, search_advance}
 use Rattle.answers.specs.Answers.{completed, ended, Outcome}
@@ -45,7 +45,7 @@ module _ (slots : List ℕ) (m point reach : ℕ) where
   probes : (n index : ℕ) → 1 ≤ index → index + n ≡ reach + 1 → NoneBelow index → Took (search_end slots m point reach n index (Probing (record { reach = reach; next = index })))
   unfolding search_end end_after search_access search_advance probe_advance next_probe holds_point word_read lookup_ending NoneBelow
   probes zero index low all none =
-      subst (λ (steps : ℕ). LookupTook slots m point reach (ended (completed (lookup_ending Unknown) steps))) (sym (omega arith))
+      subst (λ (steps : ℕ). LookupTook slots m point reach (ended (completed (lookup_ending None) steps))) (sym (omega arith))
       (not_found (λ j from to. none j from (omega arith)))
   probes (suc n) index low all none = go (eqb (point_of word) point) refl (ltb index reach) refl (λ below. probes n (index + 1) (omega arith) (omega arith) below)
     where
@@ -55,7 +55,7 @@ module _ (slots : List ℕ) (m point reach : ℕ) where
       -- how the search stands, by whether the position holds the point and whether it is the last
       stands : (hit more : Bool) → Searched
       stands hit more =
-          cond hit (Answered (Found (record { index = index; value = value_of word }))) (cond more (Going (Probing (record { reach = reach; next = index + 1 }))) (Answered Unknown))
+          cond hit (Answered (Some (record { index = index; value = value_of word }))) (cond more (Going (Probing (record { reach = reach; next = index + 1 }))) (Answered None))
 
       go : (hit : Bool) → eqb (point_of word) point ≡ hit → (more : Bool) → ltb index reach ≡ more → (NoneBelow (index + 1) → Took (search_end slots m point reach n (index + 1) (Probing (record { reach = reach; next = index + 1 })))) → Took (end_after (search_end slots m point reach n (index + 1)) (index + 1) (stands hit more))
       go true e more f rest = found_at index low (omega arith) (eqb-true (point_of word) point e) none
@@ -63,17 +63,17 @@ module _ (slots : List ℕ) (m point reach : ℕ) where
       go false e false f rest =
           let last = ltb-false index reach f in
           let below = none_more index none (eqb-false (point_of word) point e) in
-          subst (λ (steps : ℕ). LookupTook slots m point reach (ended (completed (lookup_ending Unknown) steps))) (sym (omega arith))
+          subst (λ (steps : ℕ). LookupTook slots m point reach (ended (completed (lookup_ending None) steps))) (sym (omega arith))
           (not_found (λ j from to. below j from (omega arith)))
 
   whole_took : Took (search_end slots m point reach (suc reach) 0 Unread)
   unfolding search_end end_after search_advance first_probe lookup_ending NoneBelow
   whole_took = go (eqb reach 0) refl
     where
-      go : (b : Bool) → eqb reach 0 ≡ b → Took (end_after (search_end slots m point reach reach 1) 1 (cond b (Answered Unknown) (Going (Probing (record { reach = reach; next = 1 })))))
+      go : (b : Bool) → eqb reach 0 ≡ b → Took (end_after (search_end slots m point reach reach 1) 1 (cond b (Answered None) (Going (Probing (record { reach = reach; next = 1 })))))
       go true e =
           let none = eqb-true reach 0 e in
-          subst (λ (steps : ℕ). LookupTook slots m point reach (ended (completed (lookup_ending Unknown) steps))) (sym (omega arith)) (not_found (λ j from to. absurd (omega arith)))
+          subst (λ (steps : ℕ). LookupTook slots m point reach (ended (completed (lookup_ending None) steps))) (sym (omega arith)) (not_found (λ j from to. absurd (omega arith)))
       go false e = probes reach 1 (omega arith) (omega arith) (λ j from to. absurd (omega arith))
 
 -- a whole lookup that is carried out, on the slots as they are

@@ -1,5 +1,6 @@
--- What a step of a put does to the record besides the work: at most it stores the reach, or it ends and counts one index. So a loop may keep the reach and
--- that index beside the record.
+-- What a step of a put does to the record besides the work: at most it stores the reach, or it ends and counts one index. So a loop may keep the reach
+-- beside the record.
+use Rattle.std.specs.Prelude.{Option, Some, None}
 use Prim.Native.Nat.{ℕ, ◌+◌}
 use mathlib.Core.Path.{◌≡◌, refl, ◌∙◌, sym, ap, subst}
 use mathlib.Core.Bool.{Bool, true, false, cond, false≢true}
@@ -11,58 +12,58 @@ use Rattle.record.specs.declared.PutStage.TheVariants.{Searching as PutStage-as-
 use Rattle.record.specs.declared.Record.{Record}
 use Rattle.record.specs.declared.WriterWork.{WriterWork}
 use Rattle.record.specs.declared.WriterWork.TheVariants.{Idle, Putting, Changing, Removing}
-use Rattle.record.specs.Parts.{with_reach, with_numbered, with_count, with_writer, with_counts}
-use Rattle.counting.specs.Steps.{writer_counted, steps_made}
-use Rattle.answers.specs.Answers.{Ending, ended_with, placed, Answer, continues, step_answer, is_underway, outcome}
+use Rattle.record.specs.Parts.{count_of, with_reach, with_count, with_writer, with_counts}
+use Rattle.record.specs.Idle.{is_writer_idle}
+use Rattle.counting.specs.Steps.{writer_counted}
+use Rattle.answers.specs.Answers.{Ending, ended_with, placed, completed, ended, underway, Progress, continues, finishes, step_answer, outcome}
 use Rattle.search.specs.declared.Searched.{Searched}
 use Rattle.search.specs.declared.Searched.TheVariants.{Going, Answered as Searched-as-Answered}
-use Rattle.search.specs.declared.SearchAnswer.TheVariants.{Found as SearchAnswer-as-Found, Unknown}
 use Rattle.search.specs.Search.{search_advance}
-use Rattle.effects.specs.declared.update.Update.TheVariants.{Nothing, Reach, Counted}
+use Rattle.effects.specs.declared.update.Update.{Update}
+use Rattle.effects.specs.declared.update.Update.TheVariants.{Nothing, Reach, Counted, Uncounted, Answered}
 use Rattle.effects.specs.declared.memory.WriterAccess.{WriterAccess}
 use Rattle.effects.specs.Memory.{slot_stored, access_read, slots_after}
 use Rattle.effects.specs.Counts.{counted}
 use Rattle.effects.specs.Effects.{WriterEffect, going_on, ends, updated, reach_after}
-use Rattle.put.specs.Put.{exceeds, put_at, put_answered, put_searched, put_scanned, put_takes, put_stage_advance, put_advance}
-use Rattle.writer.specs.Step.{writer_access, work_advance, writer_advance}
+use Rattle.put.specs.Put.{exceeds, put_at, put_answered, put_searched, put_scanned, put_takes, put_stage_advance, put_access, put_advance}
+use Rattle.writer.specs.Step.{work_access, work_advance}
 use Rattle.writer.proofs.WriterLaws.{AtWork}
-use Rattle.whole_operations.specs.Whole.{writer_step}
-use Rattle.whole_operations.specs.WholeFacts.{puts, index_counted}
+use Rattle.whole_operations.specs.declared.changes.IndexCount.{IndexCount}
+use Rattle.whole_operations.specs.Whole.{writer_step, with_recount, leaves}
+use Rattle.whole_operations.specs.WholeFacts.{is_putting, count_added}
 use Rattle.whole_operations.proofs.WorkBeside.{step_beside}
-use Rattle.whole_operations.proofs.ChangesLaws.{no_count}
 
 pub record Adds (effect : WriterEffect) : Type 0 where
-  pub same_kind : puts effect.work ≡ true
-  pub adds : (panel : Record) → updated panel effect.update ≡ counted (with_reach panel (reach_after panel.reach effect.update)) (index_counted effect.update)
+  pub goes : effect.progress ≡ continues → (is_putting effect.work ≡ true) × ((panel : Record) → updated panel effect.update ≡ with_reach panel (reach_after panel.reach effect.update))
   -- an index is counted by the last step only
-  pub last : (steps : ℕ) → is_underway (step_answer steps effect.progress) ≡ true → index_counted effect.update ≡ 0
+  pub finishes_so : (answer : Ending) → effect.progress ≡ finishes answer → (effect.work ≡ Idle) × ((panel : Record) → updated panel effect.update ≡ leaves panel (record { reach = reach_after panel.reach effect.update; count = count_added panel effect.update }))
 
-going : (work : WriterWork) → puts work ≡ true → Adds (going_on work)
-unfolding going_on updated counted with_reach with_count with_counts with_numbered index_counted
-going work e = record { same_kind = e; adds = λ panel. refl; last = λ steps h. refl }
+going : (work : WriterWork) → is_putting work ≡ true → Adds (going_on work)
+unfolding going_on updated with_reach
+going work e = record { goes = λ h. (e, λ panel. refl); finishes_so = λ answer h. cc }
 
 ending : (answer : Ending) → Adds (ends Nothing answer)
-unfolding ends puts updated counted with_reach with_count with_counts with_numbered index_counted
-ending answer = record { same_kind = refl; adds = λ panel. refl; last = λ steps h. refl }
+unfolding ends updated leaves with_recount with_reach count_added
+ending answer = record { goes = λ h. cc; finishes_so = λ other h. (refl, λ panel. refl) }
 
 raising : (put : Put) (index : ℕ) → Adds (record { work = Putting put; update = Reach index; progress = continues })
-unfolding puts updated counted with_reach with_count with_counts with_numbered index_counted
-raising put index = record { same_kind = refl; adds = λ panel. refl; last = λ steps h. refl }
+unfolding updated with_reach
+raising put index = record { goes = λ h. (refl, λ panel. refl); finishes_so = λ answer h. cc }
 
 counting : (index : ℕ) (answer : Ending) → Adds (ends (Counted index) answer)
-unfolding ends puts updated counted with_reach with_count with_counts index_counted
-counting index answer = record { same_kind = refl; adds = λ panel. refl; last = λ steps h. absurd (false≢true h) }
+unfolding ends updated counted leaves with_recount with_reach with_count with_counts count_added
+counting index answer = record { goes = λ h. cc; finishes_so = λ other h. (refl, λ panel. refl) }
 
 module _ (put : Put) where
   at_stage : (stage : PutStage) → Adds (put_at put stage)
-  unfolding put_at puts
+  unfolding put_at
   at_stage stage = going _ refl
 
   searched : (after : Searched) → Adds (put_searched put after)
   unfolding put_searched put_answered
   searched (Going search) = at_stage (PutStage-as-Searching search)
-  searched (Searched-as-Answered (SearchAnswer-as-Found place)) = at_stage (PutStage-as-Found place)
-  searched (Searched-as-Answered Unknown) = at_stage (Scanning 1)
+  searched (Searched-as-Answered (Some place)) = at_stage (PutStage-as-Found place)
+  searched (Searched-as-Answered None) = at_stage (Scanning 1)
 
   scanned : (k index word : ℕ) → Adds (put_scanned k put index word)
   unfolding put_scanned
@@ -88,34 +89,60 @@ module _ (put : Put) where
   put_adds k reach slot (PutStage-as-Found place) word = ending _
   put_adds k reach slot (Chosen index) word = takes reach slot index
 
-pub step_adds : (panel : Record) (work : WriterWork) (slot word : ℕ) → puts work ≡ true → Adds (writer_advance panel work slot word)
-unfolding work_advance puts put_advance
-step_adds panel Idle slot word e = going Idle refl
-step_adds panel (Putting put) slot word e = put_adds put panel.k panel.reach slot put.stage word
-step_adds panel (Changing change) slot word e = absurd (false≢true e)
-step_adds panel (Removing removal) slot word e = absurd (false≢true e)
+-- ---- a step of the record with the reach kept beside it
+module _ (panel : Record) (reach : ℕ) (slots stored : List ℕ) (work : WriterWork) (put : Put) (access : WriterAccess) (slot word : ℕ) (effect : WriterEffect) (p : AtWork (outcome (with_writer (with_reach panel reach) work) slots underway)) (same-made : Putting put ≡ writer_counted panel.k work) (same_access : access ≡ put_access panel.m reach put) (same-slot : slot ≡ slot_stored access) (same_word : word ≡ access_read slots access) (same_slots : stored ≡ slots_after slots access) (same_effect : effect ≡ put_advance panel.k reach slot put word) where
+  held : Record
+  held = with_reach panel reach
 
--- ---- a step of the record with the reach and the index put back, from what its parts gave for the record without them
-pub none_counted : (panel : Record) (index : ℕ) → index ≡ 0 → counted panel index ≡ panel
-unfolding counted
-none_counted panel index e = no_count panel index _ e
+  adds : Adds effect
+  unfolding put_advance
+  adds = subst Adds (sym same_effect) (put_adds put panel.k reach slot put.stage word)
 
-pub effect_adds : (panel : Record) (work : WriterWork) (slot word : ℕ) (effect : WriterEffect) → puts work ≡ true → effect ≡ writer_advance panel work slot word → Adds effect
-effect_adds panel work slot word effect kind same = subst Adds (sym same) (step_adds panel work slot word kind)
+  steps_to : (after : Record) → after ≡ updated held effect.update → writer_step (outcome (with_writer held work) slots underway) ≡ outcome (with_writer after effect.work) stored (step_answer put.steps effect.progress)
+  unfolding held with_reach work_access work_advance
+  steps_to after same = step_beside held after slots stored work (Putting put) underway access slot word put.steps effect p refl same-made same_access same-slot same_word same_slots same_effect refl same
+
+  pub step_goes : effect.progress ≡ continues → (writer_step (outcome (with_writer (with_reach panel reach) work) slots underway) ≡ outcome (with_writer (with_reach panel (reach_after reach effect.update)) effect.work) stored underway) × (is_putting effect.work ≡ true)
+  unfolding held with_reach
+  step_goes e =
+      let so = adds.goes e in
+      (steps_to (with_reach panel (reach_after reach effect.update)) (sym (so.1 held)) ∙ ap (λ (after : Progress). outcome (with_writer (with_reach panel (reach_after reach effect.update)) effect.work) stored (step_answer put.steps after)) e, so.0)
+
+  counts_alike : (update : Update) → count_added held update ≡ count_added panel update
+  unfolding held with_reach count_added count_of
+  counts_alike Nothing = refl
+  counts_alike (Reach reach) = refl
+  counts_alike (Counted index) = refl
+  counts_alike (Uncounted index) = refl
+  counts_alike (Answered command) = refl
+
+  pub step_ends : (answer : Ending) → effect.progress ≡ finishes answer → writer_step (outcome (with_writer (with_reach panel reach) work) slots underway) ≡ outcome (with_writer (leaves panel (record { reach = reach_after reach effect.update; count = count_added panel effect.update })) Idle) stored (ended (completed answer put.steps))
+  unfolding held with_reach leaves
+  step_ends answer e =
+      let so = adds.finishes_so answer e in
+      let after = leaves panel (record { reach = reach_after reach effect.update; count = count_added panel effect.update }) in
+      let left = ap (λ (n : Option IndexCount). leaves held (record { reach = reach_after reach effect.update; count = n })) (sym (counts_alike effect.update)) in
+      steps_to after (left ∙ sym (so.1 held))
+      ∙ ap (λ (last : WriterWork). outcome (with_writer after last) stored (step_answer put.steps effect.progress)) so.0
+      ∙ ap (λ (now : Progress). outcome (with_writer after Idle) stored (step_answer put.steps now)) e
+
+-- a put is work, and no other work is one
+pub putting_works : (work : WriterWork) → is_putting work ≡ true → is_writer_idle work ≡ false
+putting_works Idle e = absurd (false≢true e)
+putting_works (Putting put) e = refl
+putting_works (Changing change) e = absurd (false≢true e)
+putting_works (Removing removal) e = absurd (false≢true e)
+
+pub putting_only : (work : WriterWork) → is_putting work ≡ true → ((put : Put) → work ≡ Putting put → ⊥) → ⊥
+putting_only Idle e other = false≢true e
+putting_only (Putting put) e other = other put refl
+putting_only (Changing change) e other = false≢true e
+putting_only (Removing removal) e other = false≢true e
 
 -- counting a step leaves that it is a put's
-pub counted_puts : (k : ℕ) (work : WriterWork) → puts work ≡ true → puts (writer_counted k work) ≡ true
-unfolding puts writer_counted
-counted_puts k Idle e = refl
+pub counted_puts : (k : ℕ) (work : WriterWork) → is_putting work ≡ true → is_putting (writer_counted k work) ≡ true
+unfolding writer_counted
+counted_puts k Idle e = absurd (false≢true e)
 counted_puts k (Putting put) e = refl
 counted_puts k (Changing change) e = absurd (false≢true e)
 counted_puts k (Removing removal) e = absurd (false≢true e)
-
-pub step_kept : (panel : Record) (reach index next-reach next-index : ℕ) (slots stored : List ℕ) (work made : WriterWork) (answer : Answer) (access : WriterAccess) (slot word steps : ℕ) (effect : WriterEffect) → index ≡ 0 → Adds effect → AtWork (outcome (with_writer (counted (with_reach panel reach) index) work) slots answer) → is_underway answer ≡ true → made ≡ writer_counted panel.k work → access ≡ writer_access (with_reach panel reach) made → slot ≡ slot_stored access → word ≡ access_read slots access → stored ≡ slots_after slots access → effect ≡ writer_advance (with_reach panel reach) made slot word → steps ≡ steps_made made → next-reach ≡ reach_after reach effect.update → next-index ≡ index_counted effect.update → writer_step (outcome (with_writer (counted (with_reach panel reach) index) work) slots answer) ≡ outcome (with_writer (counted (with_reach panel next-reach) next-index) effect.work) stored (step_answer steps effect.progress)
-unfolding with_reach
-step_kept panel reach index next-reach next-index slots stored work made answer access slot word steps effect none adds p e same-made same_access same-slot same_word same_slots same_effect same-steps same-reach same_index =
-    let held = with_reach panel reach in
-    let kept = sym (none_counted held index none) in
-    step_beside (counted held index) _ slots stored work made answer access slot word steps effect p e (same-made ∙ ap (λ (r : Record). writer_counted r.k work) kept) (same_access ∙ ap (λ (r : Record). writer_access r made) kept) same-slot same_word same_slots
-    (same_effect ∙ ap (λ (r : Record). writer_advance r made slot word) kept) same-steps
-    ((λ j. counted (with_reach panel (same-reach j)) (same_index j)) ∙ sym (adds.adds held) ∙ ap (λ (r : Record). updated r effect.update) kept)

@@ -7,16 +7,6 @@ use native.Mathlib.Omega.{arith}
 use Rattle.answers.specs.Answers.{is_underway, Outcome}
 use Rattle.whole_operations.specs.Whole.{until_ended}
 
--- a step that is taken is one less
-pub fewer : (left left_After : ℕ) (goes_on : Bool) → 1 ≤ left → left_After ≡ cond goes_on (left - 1) 0 → left_After < left
-fewer left left_After true h e = omega arith
-fewer left left_After false h e = omega arith
-
--- where a step is left, the operation goes on
-pub still : (goes_on : Bool) (left left_After : ℕ) → left_After ≡ cond goes_on (left - 1) 0 → 1 ≤ left_After → goes_on ≡ true
-still true left left_After e h = refl
-still false left left_After e h = absurd (omega arith)
-
 module _ (step : Outcome → Outcome) where
   pub one_step : (n : ℕ) (now : Outcome) → 1 ≤ n → is_underway now.answer ≡ true → until_ended step n now ≡ until_ended step (n - 1) (step now)
   unfolding until_ended
@@ -53,36 +43,32 @@ module _ (step : Outcome → Outcome) where
   pub same_step : (n : ℕ) (a b : Outcome) → 1 ≤ n → is_underway a.answer ≡ true → is_underway b.answer ≡ true → step a ≡ step b → until_ended step n a ≡ until_ended step n b
   same_step n a b h e f same = one_step n a h e ∙ ap (until_ended step (n - 1)) same ∙ sym (one_step n b h f)
 
-  -- a loop on its way from the start: P holds, and what is left to do comes to the same as the whole
-  pub record OnTheWay (P : Outcome → Type 0) (start : Outcome) (budget left : ℕ) (now : Outcome) : Type 0 where
+  -- a loop of at most as many steps as the budget, on its way from the start, with so many steps made: P holds, and what is left to do comes to the same as the whole
+  pub record OnTheWay (P : Outcome → Type 0) (start : Outcome) (budget made : ℕ) (now : Outcome) : Type 0 where
     pub holds : P now
-    pub goes : 1 ≤ left → is_underway now.answer ≡ true
-    pub same : until_ended step left now ≡ until_ended step budget start
+    pub same : until_ended step (budget - made) now ≡ until_ended step budget start
 
-  -- a loop that sets out: no step is taken where the operation has ended already
-  pub sets_out : (P : Outcome → Type 0) (start : Outcome) (budget left : ℕ) → P start → left ≡ cond (is_underway start.answer) budget 0 → OnTheWay P start budget left start
-  sets_out P start budget left p e = go (is_underway start.answer) refl e
-    where
-      go : (b : Bool) → is_underway start.answer ≡ b → left ≡ cond b budget 0 → OnTheWay P start budget left start
-      go true underway f = record { holds = p; goes = λ h. underway; same = ap (λ (n : ℕ). until_ended step n start) f }
-      go false ended f =
-          record { holds = p; goes = λ h. absurd (omega arith); same = used_up left start f ∙ sym (has_ended budget start ended) }
+  pub sets_out : (P : Outcome → Type 0) (start : Outcome) (budget : ℕ) → P start → OnTheWay P start budget 0 start
+  sets_out P start budget p = record { holds = p; same = ap (λ (n : ℕ). until_ended step n start) (omega arith) }
 
-  module _ (P : Outcome → Type 0) (keeps : (now : Outcome) → P now → is_underway now.answer ≡ true → P (step now)) (start : Outcome) (budget left : ℕ) (now : Outcome) (way : OnTheWay P start budget left now) where
-    pub arrives : left ≡ 0 → now ≡ until_ended step budget start
-    arrives e = sym (used_up left now e) ∙ way.same
+  module _ (P : Outcome → Type 0) (keeps : (now : Outcome) → P now → is_underway now.answer ≡ true → P (step now)) (start : Outcome) (budget made : ℕ) (now : Outcome) (way : OnTheWay P start budget made now) (underway : is_underway now.answer ≡ true) where
+    -- the budget is not used up before the operation has ended
+    pub some_left : is_underway (until_ended step budget start).answer ≡ false → budget ≤ made → ⊥
+    some_left ends used =
+        let all = used_up (budget - made) now (omega arith) in
+        false≢true (sym ends ∙ ap (λ (after : Outcome). is_underway after.answer) (sym way.same ∙ all) ∙ underway)
 
-    module _ (more : 1 ≤ left) (after : Outcome) (takes : step now ≡ after) where
-      after_holds : P after
-      after_holds = transport (λ j. P (takes j)) (keeps now way.holds (way.goes more))
+    module _ (more : made < budget) (after : Outcome) (takes : step now ≡ after) where
+      on_from : until_ended step (budget - (made + 1)) after ≡ until_ended step budget start
+      on_from =
+          let fewer : budget - (made + 1) ≡ budget - made - 1 = omega arith in
+          ap (λ (n : ℕ). until_ended step n after) fewer ∙ sym (ap (until_ended step (budget - made - 1)) takes) ∙ sym (one_step (budget - made) now (omega arith) underway) ∙ way.same
 
-      after_same : until_ended step (left - 1) after ≡ until_ended step budget start
-      after_same = sym (ap (until_ended step (left - 1)) takes) ∙ sym (one_step left now more (way.goes more)) ∙ way.same
+      pub steps_on : OnTheWay P start budget (made + 1) after
+      steps_on = record { holds = transport (λ j. P (takes j)) (keeps now way.holds underway); same = on_from }
 
-      pub steps_on : (left_After : ℕ) → left_After ≡ cond (is_underway after.answer) (left - 1) 0 → OnTheWay P start budget left_After after
-      steps_on left_After e =
-          let out = sets_out P after (left - 1) left_After after_holds e in
-          record { holds = out.holds; goes = out.goes; same = out.same ∙ after_same }
+      pub arrives : is_underway after.answer ≡ false → after ≡ until_ended step budget start
+      arrives ended = sym (has_ended (budget - (made + 1)) after ended) ∙ on_from
 
   -- a budget suffices that is not below the steps left: P holds of every outcome on the way, and each step takes one of the steps that are left
   module _ (P : Outcome → Type 0) (left : Outcome → ℕ) (takes_one : (now : Outcome) → P now → is_underway now.answer ≡ true → P (step now) × (left (step now) + 1 ≤ left now)) where

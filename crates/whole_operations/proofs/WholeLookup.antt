@@ -1,5 +1,7 @@
 -- A whole lookup ends: its bound of steps suffices, on every record; and it leaves the record as it was. The number of readers is that of the machine's
 -- array, which the definitions' lists do not carry.
+use Rattle.std.specs.Prelude.{Option}
+use Rattle.record.specs.declared.Place.{Place}
 use Prim.Native.Nat.{ℕ, zero, suc, ◌+◌, ◌≤◌, ◌<◌}
 use mathlib.Core.Path.{◌≡◌, refl, ap, ◌∙◌, sym, transport}
 use mathlib.Core.Bool.{Bool, true, false, cond, not, false≢true}
@@ -35,7 +37,6 @@ use Rattle.whole_operations.proofs.WholeLaws.{budget_suffices, has_ended, same_s
 use Rattle.whole_operations.proofs.WholeSearch.{standing, search_comes}
 use Rattle.search.specs.declared.Searched.{Searched}
 use Rattle.search.specs.declared.Searched.TheVariants.{Going, Answered}
-use Rattle.search.specs.declared.SearchAnswer.{SearchAnswer}
 use Rattle.search.specs.Access.{word_read}
 use Rattle.answers.specs.Answers.{completed, Answer, started, underway, refused, walked, walked_last, is_underway, Outcome, outcome, unless_refused, ended}
 use Rattle.answers.proofs.AnswerLaws.{allowed_call}
@@ -215,7 +216,7 @@ module _ (panel : Record) (slots : List ℕ) (reader point : ℕ) (sixteen : len
   abbrev going : ℕ → Search → Outcome
   going steps search = outcome (with_work panel reader (LookingUp (looking steps search))) slots underway
 
-  abbrev answered : ℕ → SearchAnswer → Outcome
+  abbrev answered : ℕ → Option Place → Outcome
   answered steps answer = outcome (with_work panel reader Idle) slots (ended (completed (lookup_ending answer) steps))
 
   as_it_stands : (steps : ℕ) (search : Search) (stands : Searched) → outcome (with_work panel reader (lookup_effect (looking steps search) stands).work) slots (lookup_effect (looking steps search) stands).answer ≡ standing (going steps) (answered steps) stands

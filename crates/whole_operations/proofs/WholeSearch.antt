@@ -1,6 +1,8 @@
 -- A whole search: over slots that stay as they are, the steps of an operation's search come to what `search_end` says, and the operation goes on from there.
+use Rattle.std.specs.Prelude.{Option, Some, None}
+use Rattle.record.specs.declared.Place.{Place}
 use Prim.Native.Nat.{ℕ, zero, suc, ◌+◌, ◌-◌, ◌≤◌, ◌<◌}
-use mathlib.Core.Path.{◌≡◌, refl, ap, ◌∙◌, sym, transport}
+use mathlib.Core.Path.{◌≡◌, refl, ap, ◌∙◌, sym, subst, transport}
 use mathlib.Core.Bool.{Bool, true, false, cond}
 use mathlib.Core.List.{List}
 use native.Mathlib.Omega.{arith}
@@ -12,8 +14,7 @@ use Rattle.work_ranges.specs.WorkRanges.{search_in_range}
 use Rattle.answers.specs.Answers.{is_underway, Outcome}
 use Rattle.search.specs.declared.Searched.{Searched}
 use Rattle.search.specs.declared.Searched.TheVariants.{Going, Answered}
-use Rattle.search.specs.declared.SearchAnswer.{SearchAnswer}
-use Rattle.search.specs.declared.SearchAnswer.TheVariants.{Found, Unknown}
+use Rattle.search.specs.declared.access.ReadAccess.{ReadAccess}
 use Rattle.search.specs.Access.{word_read}
 use Rattle.search.specs.Search.{search_access, first_probe, next_probe, holds_point, probe_advance, search_advance}
 use Rattle.slot_words.specs.Word.{point_of, value_of}
@@ -24,7 +25,7 @@ use Rattle.whole_operations.specs.WholeFacts.{end_after, search_end}
 use Rattle.whole_operations.proofs.WholeLaws.{one_step, one_more, some_budget}
 
 -- an operation as its search stands after a step
-abbrev pub standing : (Search → Outcome) → (SearchAnswer → Outcome) → Searched → Outcome
+abbrev pub standing : (Search → Outcome) → (Option Place → Outcome) → Searched → Outcome
 standing going answered (Going search) = going search
 standing going answered (Answered answer) = answered answer
 
@@ -34,7 +35,7 @@ module _ (step : Outcome → Outcome) (P : Outcome → Type 0) where
     pub holds : P after
     pub same : until_ended step budget before ≡ until_ended step budget after
 
-  module _ (slots : List ℕ) (m point reach top : ℕ) (keeps : (now : Outcome) → P now → is_underway now.answer ≡ true → P (step now)) (going : ℕ → Search → Outcome) (answered : ℕ → SearchAnswer → Outcome) (goes : (steps : ℕ) (search : Search) → is_underway (going steps search).answer ≡ true) (takes : (steps : ℕ) (search : Search) → steps ≤ top → P (going steps search) → step (going steps search) ≡ standing (going (steps + 1)) (answered (steps + 1)) (search_advance reach point search (word_read slots (search_access m point search)))) where
+  module _ (slots : List ℕ) (m point reach top : ℕ) (keeps : (now : Outcome) → P now → is_underway now.answer ≡ true → P (step now)) (going : ℕ → Search → Outcome) (answered : ℕ → Option Place → Outcome) (goes : (steps : ℕ) (search : Search) → is_underway (going steps search).answer ≡ true) (takes : (steps : ℕ) (search : Search) → steps ≤ top → P (going steps search) → step (going steps search) ≡ standing (going (steps + 1)) (answered (steps + 1)) (search_advance reach point search (word_read slots (search_access m point search)))) where
     abbrev end : ℕ → ℕ → Search → SearchEnd
     end n steps search = search_end slots m point reach n steps search
 
@@ -93,7 +94,7 @@ module _ (slots : List ℕ) (m point reach : ℕ) where
   abbrev probing : ℕ → Search
   probing next = Probing (record { reach = reach; next = next })
 
-  abbrev ended : SearchAnswer → ℕ → SearchEnd
+  abbrev ended : Option Place → ℕ → SearchEnd
   ended answer steps = record { answer = answer; steps = steps }
 
   abbrev whole : SearchEnd
@@ -103,7 +104,7 @@ module _ (slots : List ℕ) (m point reach : ℕ) where
     pub low : 1 ≤ next
     pub high : next ≤ reach + 1
     pub more : next ≤ reach → search_end slots m point reach (reach + 1 - next) next (probing next) ≡ whole
-    pub none : reach < next → ended Unknown next ≡ whole
+    pub none : reach < next → ended None next ≡ whole
 
   -- "read the reach r; then positions 1 to r"
   pub first_index : FromIndex 1
@@ -128,7 +129,7 @@ module _ (slots : List ℕ) (m point reach : ℕ) where
   AfterProbe next (Going search) = FromIndex (next + 1)
   AfterProbe next (Answered answer) = ended answer (next + 1) ≡ whole
 
-  pub after_probe : (next : ℕ) → FromIndex next → next ≤ reach → AfterProbe next (search_advance reach point (probing next) (word_read slots (search_access m point (probing next))))
+  after_probe : (next : ℕ) → FromIndex next → next ≤ reach → AfterProbe next (search_advance reach point (probing next) (word_read slots (search_access m point (probing next))))
   unfolding search_advance holds_point probe_advance next_probe search_end end_after
   after_probe next way h = go (eqb (point_of word) point) (ltb next reach) refl same
     where
@@ -137,7 +138,7 @@ module _ (slots : List ℕ) (m point reach : ℕ) where
 
       -- how the search stands, by whether the position shows the point and whether it is the last
       stands : (hit more : Bool) → Searched
-      stands hit more = cond hit (Answered (Found (record { index = next; value = value_of word }))) (cond more (Going (probing (next + 1))) (Answered Unknown))
+      stands hit more = cond hit (Answered (Some (record { index = next; value = value_of word }))) (cond more (Going (probing (next + 1))) (Answered None))
 
       -- what is left from there
       left : Searched → SearchEnd
@@ -159,3 +160,14 @@ module _ (slots : List ℕ) (m point reach : ℕ) where
             none = λ h. absurd (omega arith);
           }
       go false false e ends = ends
+
+  -- the same from what the parts of the step gave
+  pub probed : (next : ℕ) (access : ReadAccess) (word : ℕ) (stands : Searched) → FromIndex next → next ≤ reach → access ≡ search_access m point (probing next) → word ≡ word_read slots access → stands ≡ search_advance reach point (probing next) word → AfterProbe next stands
+  probed next access word stands way h same_access same_word same =
+      subst (AfterProbe next) (sym (same ∙ ap (search_advance reach point (probing next)) (same_word ∙ ap (word_read slots) same_access)))
+      (after_probe next way h)
+
+  -- behind the last position nothing is found
+  pub past_last : (next : ℕ) → FromIndex next → reach < next → ended None (reach + 1) ≡ whole
+  past_last next way h =
+      let last : next ≡ reach + 1 = omega (arith, way.high) in subst (λ (n : ℕ). ended None n ≡ whole) last (way.none h)

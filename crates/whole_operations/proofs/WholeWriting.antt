@@ -77,9 +77,7 @@ module _ (panel : Record) (slots : List ℕ) (point : ℕ) (work : WriterWork) (
     pub begun_ends : 1 ≤ budget → is_underway (until_ended writer_step budget (start_writer panel slots point work)).answer ≡ false → is_underway (until_ended writer_step budget (outcome (with_writer panel work) slots underway)).answer ≡ false
     begun_ends h ends = ap (λ (now : Outcome). is_underway now.answer) (same_start h) ∙ ends
 
-    pub run_ended : (after : Record) (last : WriterWork) (stored : List ℕ) (answer : Answer) → after.writer.work ≡ panel.writer.work → 1 ≤ budget → is_underway answer ≡ not (is_writer_idle last) → is_underway (until_ended writer_step budget (start_writer panel slots point work)).answer ≡ false → outcome (with_writer after last) stored answer ≡ until_ended writer_step budget (outcome (with_writer panel work) slots underway) → outcome after stored answer ≡ until_ended writer_step budget (start_writer panel slots point work)
+    pub run_ended : (after : Record) (stored : List ℕ) (answer : Answer) → after.writer.work ≡ panel.writer.work → 1 ≤ budget → outcome (with_writer after Idle) stored answer ≡ until_ended writer_step budget (outcome (with_writer panel work) slots underway) → outcome after stored answer ≡ until_ended writer_step budget (start_writer panel slots point work)
     unfolding with_writer
-    run_ended after last stored answer same_writer h busy ends ran =
-        let same = ran ∙ same_start h in
-        let idle = idle_work last (not-false (is_writer_idle last) (sym busy ∙ ap (λ (now : Outcome). is_underway now.answer) same ∙ ends)) in
-        ap (λ (w : WriterWork). outcome (with_writer after w) stored answer) (same_writer ∙ judged.1 ∙ sym idle) ∙ same
+    run_ended after stored answer same_writer h ran =
+        ap (λ (w : WriterWork). outcome (with_writer after w) stored answer) (same_writer ∙ judged.1) ∙ ran ∙ same_start h

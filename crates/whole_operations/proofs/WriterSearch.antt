@@ -1,7 +1,9 @@
 -- The search of a put, change or removal as one: the operation goes on with what the search's answer leads to.
+use Rattle.std.specs.Prelude.{Option, Some, None}
+use Rattle.record.specs.declared.Place.{Place}
 use Prim.Native.Nat.{ℕ, suc, ◌+◌, ◌≤◌}
 use mathlib.Core.Path.{◌≡◌, refl, ap, ◌∙◌, sym, subst, transport}
-use mathlib.Core.Bool.{true, false, not, false≢true}
+use mathlib.Core.Bool.{true, false, false≢true}
 use mathlib.Core.List.{List}
 use native.Mathlib.Omega.{arith}
 use lib.ListN.{length}
@@ -18,15 +20,14 @@ use Rattle.record.specs.declared.WriterWork.{WriterWork}
 use Rattle.record.specs.declared.WriterWork.TheVariants.{Idle, Putting, Changing, Removing}
 use Rattle.record.specs.Parts.{with_writer}
 use Rattle.counting.specs.declared.steps.OperationKind.TheVariants.{Put as Kind-as-Put, Change as Kind-as-Change, Removal as Kind-as-Removal}
-use Rattle.counting.specs.Steps.{put_counted, change_counted, removal_counted, writer_counted, steps_made}
+use Rattle.counting.specs.Steps.{step_bound, put_counted, change_counted, removal_counted, writer_counted, steps_made}
 use Rattle.counting.proofs.StepLaws.{counted_one}
 use Rattle.work_ranges.specs.WorkRanges.{search_in_range}
 use Rattle.record_ranges.proofs.Laws.{fields, sizes_in_range_lem}
-use Rattle.answers.specs.Answers.{Answer, step_answer, underway, is_underway, Outcome, outcome}
+use Rattle.record_ranges.specs.Ranges.{in_range}
+use Rattle.answers.specs.Answers.{Answer, ended_with, completed, ended, Progress, continues, step_answer, underway, is_underway, Outcome, outcome}
 use Rattle.search.specs.declared.Searched.{Searched}
 use Rattle.search.specs.declared.Searched.TheVariants.{Going, Answered}
-use Rattle.search.specs.declared.SearchAnswer.{SearchAnswer}
-use Rattle.search.specs.declared.SearchAnswer.TheVariants.{Found, Unknown}
 use Rattle.search.specs.Access.{word_read}
 use Rattle.search.specs.Search.{search_access, search_advance}
 use Rattle.search.proofs.SearchLaws.{search_left}
@@ -38,14 +39,15 @@ use Rattle.record.specs.Idle.{is_writer_idle}
 use Rattle.put.specs.Put.{put_stage_access, put_access, put_at, put_answered, put_searched, put_stage_advance, put_advance}
 use Rattle.change.specs.Change.{command_ends, change_stage_access, change_access, change_at, change_answered, change_searched, change_stage_advance, change_advance}
 use Rattle.removal.specs.Removal.{removal_stage_access, removal_access, removal_at, removal_answered, removal_searched, removal_stage_advance, removal_advance}
-use Rattle.writer.specs.Starts.{start_refusal, start_writer}
+use Rattle.writer.specs.Starts.{start_refusal, start_writer, put_begun, removal_begun, start_put, start_removal}
 use Rattle.writer.specs.Step.{work_access, writer_access, work_advance, writer_advance}
 use Rattle.writer.specs.WriterFacts.{Begun}
-use Rattle.writer.proofs.WriterLaws.{AtWork}
+use Rattle.writer.proofs.WriterLaws.{AtWork, put_begins, removal_begins}
 use Rattle.whole_operations.specs.declared.searching.SearchEnd.{SearchEnd}
-use Rattle.whole_operations.specs.Whole.{until_ended, writer_step}
-use Rattle.whole_operations.specs.WholeFacts.{puts, removes, search_end}
-use Rattle.whole_operations.proofs.WholeEnds.{stays_at_work}
+use Rattle.whole_operations.specs.Whole.{until_ended, writer_step, whole_put, whole_removal}
+use Rattle.whole_operations.specs.WholeFacts.{is_putting, removing_from, search_end}
+use Rattle.whole_operations.proofs.WholeEnds.{stays_at_work, whole_put_ends, whole_removal_ends}
+use Rattle.whole_operations.proofs.WholeLaws.{has_ended}
 use Rattle.whole_operations.proofs.WholeSearch.{standing, Comes, search_comes}
 use Rattle.whole_operations.proofs.WholeWriting.{begun_at_work, begun_ends, run_ended}
 use Rattle.whole_operations.proofs.WorkBeside.{step_beside}
@@ -67,7 +69,7 @@ searching_by (Changing change) steps search =
 searching_by (Removing removal) steps search = Removing (record { point = removal.point; stage = RemovalStage-as-Searching search; steps = steps })
 
 -- what an operation comes to in the step, the one of this number, that answers its search
-unfoldable pub answered_by : WriterWork → ℕ → SearchAnswer → WriterEffect
+unfoldable pub answered_by : WriterWork → ℕ → Option Place → WriterEffect
 answered_by Idle steps answer = going_on Idle
 answered_by (Putting put) steps answer = put_answered (record { point = put.point; value = put.value; stage = put.stage; steps = steps }) answer
 answered_by (Changing change) steps answer =
@@ -107,20 +109,20 @@ effect_of work steps (Answered answer) = answered_by work steps answer
 put_effect : (put : Put) (steps : ℕ) (search : Search) (stands : Searched) → put_searched (record { point = put.point; value = put.value; stage = PutStage-as-Searching search; steps = steps }) stands ≡ effect_of (Putting put) steps stands
 unfolding put_searched put_answered put_at going_on searching_by answered_by
 put_effect put steps search (Going next) = refl
-put_effect put steps search (Answered (Found place)) = refl
-put_effect put steps search (Answered Unknown) = refl
+put_effect put steps search (Answered (Some place)) = refl
+put_effect put steps search (Answered None) = refl
 
 change_effect : (change : Change) (steps : ℕ) (search : Search) (stands : Searched) → change_searched (record { point = change.point; alteration = change.alteration; stage = ChangeStage-as-Searching search; steps = steps }) stands ≡ effect_of (Changing change) steps stands
 unfolding change_searched change_answered change_at going_on command_ends searching_by answered_by
 change_effect change steps search (Going next) = refl
-change_effect change steps search (Answered (Found place)) = refl
-change_effect change steps search (Answered Unknown) = refl
+change_effect change steps search (Answered (Some place)) = refl
+change_effect change steps search (Answered None) = refl
 
 removal_effect : (removal : Removal) (steps : ℕ) (search : Search) (stands : Searched) → removal_searched (record { point = removal.point; stage = RemovalStage-as-Searching search; steps = steps }) stands ≡ effect_of (Removing removal) steps stands
 unfolding removal_searched removal_answered removal_at going_on searching_by answered_by
 removal_effect removal steps search (Going next) = refl
-removal_effect removal steps search (Answered (Found place)) = refl
-removal_effect removal steps search (Answered Unknown) = refl
+removal_effect removal steps search (Answered (Some place)) = refl
+removal_effect removal steps search (Answered None) = refl
 
 advance_of : (panel : Record) (work : WriterWork) (steps : ℕ) (search : Search) (slot word : ℕ) → is_writer_idle work ≡ false → writer_advance panel (searching_by work steps search) slot word ≡ effect_of work steps (search_advance panel.reach (point_of_work work) search word)
 unfolding work_advance searching_by point_of_work put_advance put_stage_advance change_advance change_stage_advance removal_advance removal_stage_advance
@@ -130,23 +132,28 @@ advance_of panel (Changing change) steps search slot word e = change_effect chan
 advance_of panel (Removing removal) steps search slot word e = removal_effect removal steps search (search_advance panel.reach removal.point search word)
 
 -- ---- what the answer leads to: nothing else changes in the record
-pub answered_puts : (put : Put) (answer : SearchAnswer) → ((put_answered put answer).update ≡ Nothing) × (puts (put_answered put answer).work ≡ true)
-unfolding puts put_answered put_at going_on
-answered_puts put (Found place) = (refl, refl)
-answered_puts put Unknown = (refl, refl)
+pub record PutsOn (effect : WriterEffect) : Type 0 where
+  pub leaves : effect.update ≡ Nothing
+  pub putting : is_putting effect.work ≡ true
+  pub goes_on : effect.progress ≡ continues
 
-pub answered_removes : (removal : Removal) (answer : SearchAnswer) → ((removal_answered removal answer).update ≡ Nothing) × (removes (removal_answered removal answer).work ≡ true)
-unfolding removes removal_answered removal_at ends
-answered_removes removal (Found place) = (refl, refl)
-answered_removes removal Unknown = (refl, refl)
+pub answered_puts : (put : Put) (answer : Option Place) → PutsOn (put_answered put answer)
+unfolding put_answered put_at going_on
+answered_puts put (Some place) = record { leaves = refl; putting = refl; goes_on = refl }
+answered_puts put None = record { leaves = refl; putting = refl; goes_on = refl }
+
+pub answered_removes : (removal : Removal) (answer : Option Place) → (removal_answered removal answer).update ≡ Nothing
+unfolding removal_answered removal_at ends
+answered_removes removal (Some place) = refl
+answered_removes removal None = refl
 
 -- ---- the whole search
-module _ (panel : Record) (slots : List ℕ) (work : WriterWork) (working : is_writer_idle work ≡ false) (leaves : (steps : ℕ) (answer : SearchAnswer) → (answered_by work steps answer).update ≡ Nothing) where
+module _ (panel : Record) (slots : List ℕ) (work : WriterWork) (working : is_writer_idle work ≡ false) (leaves : (steps : ℕ) (answer : Option Place) → (answered_by work steps answer).update ≡ Nothing) where
   -- the operation with this search underway, and after the step that answers it
   abbrev going : ℕ → Search → Outcome
   going steps search = outcome (with_writer panel (searching_by work steps search)) slots underway
 
-  abbrev answered : ℕ → SearchAnswer → Outcome
+  abbrev answered : ℕ → Option Place → Outcome
   answered steps answer = outcome (with_writer panel (answered_by work steps answer).work) slots (step_answer steps (answered_by work steps answer).progress)
 
   update_leaves : (steps : ℕ) (stands : Searched) → panel ≡ updated panel (effect_of work steps stands).update
@@ -185,7 +192,13 @@ module _ (panel : Record) (slots : List ℕ) (work : WriterWork) (working : is_w
       (ap (λ (now : Outcome). is_underway (until_ended writer_step budget now).answer) begins ∙ ends))
 
 -- ---- an operation that has been started, from its search's answer on
-module _ (panel : Record) (slots : List ℕ) (point : ℕ) (work : WriterWork) (budget : ℕ) (e : start_refusal (length slots) panel point ≡ 0) (some : 1 ≤ budget) (working : is_writer_idle work ≡ false) (leaves : (steps : ℕ) (answer : SearchAnswer) → (answered_by work steps answer).update ≡ Nothing) (unread : searching_by work 0 Unread ≡ work) (about : point_of_work work ≡ point) (begun : Begun (start_writer panel slots point work)) (ends : is_underway (until_ended writer_step budget (start_writer panel slots point work)).answer ≡ false) where
+-- with this work and this budget it comes to the whole
+pub record LeftOf (panel : Record) (slots : List ℕ) (given : ℕ) (work : WriterWork) (whole : Outcome) : Type 0 where
+  pub fits : in_range (length slots) (with_writer panel work) ≡ true
+  pub ends : is_underway (until_ended writer_step given (outcome (with_writer panel work) slots underway)).answer ≡ false
+  pub comes : (after : Record) (stored : List ℕ) (answer : Answer) → after.writer.work ≡ panel.writer.work → outcome (with_writer after Idle) stored answer ≡ until_ended writer_step given (outcome (with_writer panel work) slots underway) → outcome after stored answer ≡ whole
+
+module _ (panel : Record) (slots : List ℕ) (point : ℕ) (work : WriterWork) (budget : ℕ) (e : start_refusal (length slots) panel point ≡ 0) (some : 1 ≤ budget) (working : is_writer_idle work ≡ false) (leaves : (steps : ℕ) (answer : Option Place) → (answered_by work steps answer).update ≡ Nothing) (unread : searching_by work 0 Unread ≡ work) (about : point_of_work work ≡ point) (begun : Begun (start_writer panel slots point work)) (ends : is_underway (until_ended writer_step budget (start_writer panel slots point work)).answer ≡ false) where
   abbrev found : ℕ → SearchEnd
   found q = search_end slots panel.m q panel.reach (suc panel.reach) 0 Unread
 
@@ -197,18 +210,67 @@ module _ (panel : Record) (slots : List ℕ) (point : ℕ) (work : WriterWork) (
 
   -- the effect that the answer leads to, and the steps made by then
   module _ (steps : ℕ) (effect : WriterEffect) (count : steps ≡ (found point).steps) (same : effect ≡ answered_by work (found point).steps (found point).answer) where
-    abbrev reached : ℕ → WriterEffect → Outcome
-    reached n m = outcome (with_writer panel m.work) slots (step_answer n m.progress)
+    abbrev reached : Outcome
+    reached = outcome (with_writer panel effect.work) slots (step_answer steps effect.progress)
 
-    pub effect_at_work : AtWork (reached steps effect)
-    effect_at_work = transport (λ j. AtWork (reached (sym count j) (sym same j))) comes.holds
+    at_work : AtWork reached
+    at_work = transport (λ j. AtWork (outcome (with_writer panel (sym same j).work) slots (step_answer (sym count j) (sym same j).progress))) comes.holds
 
-    -- the steps that are left, within the same budget
-    module _ (given : ℕ) (as-bound : given ≡ budget) where
-      pub whole_ended : (after : Record) (last : WriterWork) (stored : List ℕ) (answer : Answer) → after.writer.work ≡ panel.writer.work → is_underway answer ≡ not (is_writer_idle last) → outcome (with_writer after last) stored answer ≡ until_ended writer_step given (reached steps effect) → outcome after stored answer ≡ until_ended writer_step budget (start_writer panel slots point work)
-      whole_ended after last stored answer same_writer busy ran =
-          run_ended panel slots point work budget e after last stored answer same_writer some busy ends
-          (ran ∙ (λ j. until_ended writer_step (as-bound j) (reached (count j) (same j))) ∙ sym comes.same)
+    same_whole : until_ended writer_step budget reached ≡ until_ended writer_step budget (outcome (with_writer panel work) slots underway)
+    same_whole =
+        (λ j. until_ended writer_step budget (outcome (with_writer panel (same j).work) slots (step_answer (count j) (same j).progress)))
+        ∙ sym comes.same
 
-      pub has_answer : (after : Record) (last : WriterWork) (stored : List ℕ) (answer : Answer) → after.writer.work ≡ panel.writer.work → is_underway answer ≡ not (is_writer_idle last) → outcome (with_writer after last) stored answer ≡ until_ended writer_step given (reached steps effect) → is_underway answer ≡ false
-      has_answer after last stored answer same_writer busy ran = ap (λ (now : Outcome). is_underway now.answer) (whole_ended after last stored answer same_writer busy ran) ∙ ends
+    -- the answer has ended the operation
+    ends_at_once : effect.work ≡ Idle → is_underway (step_answer steps effect.progress) ≡ false → outcome panel slots (step_answer steps effect.progress) ≡ until_ended writer_step budget (start_writer panel slots point work)
+    ends_at_once idle over =
+        run_ended panel slots point work budget e panel slots (step_answer steps effect.progress) refl some
+        (ap (λ (w : WriterWork). outcome (with_writer panel w) slots (step_answer steps effect.progress)) (sym idle)
+        ∙ sym (has_ended writer_step budget reached over)
+        ∙ same_whole)
+
+    -- it has not: the steps that are left, within the same budget
+    goes_from : effect.progress ≡ continues → (given : ℕ) → given ≡ budget → LeftOf panel slots given effect.work (until_ended writer_step budget (start_writer panel slots point work))
+    unfolding with_writer
+    goes_from goes_on given as-bound =
+        let reached_now = ap (λ (p : Progress). outcome (with_writer panel effect.work) slots (step_answer steps p)) goes_on in
+        let now_same = (λ j. until_ended writer_step (as-bound j) (sym reached_now j)) ∙ same_whole in
+        record {
+          fits = at_work.fits;
+          ends = ap (λ (after : Outcome). is_underway after.answer) now_same ∙ begun_ends panel slots point work budget e some ends;
+          comes = λ after stored answer same_writer ran. run_ended panel slots point work budget e after stored answer same_writer some (ran ∙ now_same);
+        }
+
+pub record PutLeft (panel : Record) (slots : List ℕ) (given : ℕ) (work : WriterWork) (whole : Outcome) : Type 0 where
+  pub putting : is_putting work ≡ true
+  pub left : LeftOf panel slots given work whole
+
+-- ---- by its search: what it came to, and what that leads to
+module _ (panel : Record) (slots : List ℕ) (point : ℕ) (e : start_refusal (length slots) panel point ≡ 0) (found : SearchEnd) (same : found ≡ search_end slots panel.m point panel.reach (suc panel.reach) 0 Unread) (given : ℕ) where
+  pub put_left : (value : ℕ) (effect : WriterEffect) → effect ≡ put_answered (record { point = point; value = value; stage = PutStage-as-Searching Unread; steps = found.steps }) found.answer → given ≡ step_bound Kind-as-Put panel.k → PutLeft panel slots given effect.work (whole_put panel slots point value)
+  unfolding whole_put start_put searching_by point_of_work answered_by
+  put_left value effect leads as-bound =
+      let answered : SearchEnd → WriterEffect = λ (f : SearchEnd). put_answered (record { point = point; value = value; stage = PutStage-as-Searching Unread; steps = f.steps }) f.answer in
+      let on : PutsOn effect = subst PutsOn (sym leads) (answered_puts _ _) in
+      record {
+        putting = on.putting;
+        left =
+            goes_from panel slots point (put_begun point value) (step_bound Kind-as-Put panel.k) e (omega arith) refl (λ steps answer. (answered_puts _ answer).leaves) refl refl (put_begins panel slots point value) (whole_put_ends panel slots point value) found.steps effect
+            (ap (λ (f : SearchEnd). f.steps) same) (leads ∙ ap answered same) on.goes_on given as-bound;
+      }
+
+  -- a removal as its search answers
+  abbrev removal_after : ℕ → Option Place → WriterEffect
+  removal_after steps answer = removal_answered (record { point = point; stage = RemovalStage-as-Searching Unread; steps = steps }) answer
+
+  pub removal_left : (place : Place) → found.answer ≡ Some place → given ≡ step_bound Kind-as-Removal panel.k → LeftOf panel slots given (removing_from point place found.steps) (whole_removal panel slots point)
+  unfolding whole_removal start_removal searching_by point_of_work answered_by removal_answered removal_at
+  removal_left place is as-bound =
+      goes_from panel slots point (removal_begun point) (step_bound Kind-as-Removal panel.k) e (omega arith) refl (λ steps answer. answered_removes (record { point = point; stage = RemovalStage-as-Searching Unread; steps = steps }) answer) refl refl (removal_begins panel slots point) (whole_removal_ends panel slots point) found.steps (removal_after found.steps (Some place))
+      (ap (λ (f : SearchEnd). f.steps) same) (ap (removal_after found.steps) (sym is) ∙ ap (λ (f : SearchEnd). removal_after f.steps f.answer) same) refl given as-bound
+
+  pub removal_unknown : found.answer ≡ None → outcome panel slots (ended (completed (ended_with 7) found.steps)) ≡ whole_removal panel slots point
+  unfolding whole_removal start_removal searching_by point_of_work answered_by removal_answered ends
+  removal_unknown is =
+      ends_at_once panel slots point (removal_begun point) (step_bound Kind-as-Removal panel.k) e (omega arith) refl (λ steps answer. answered_removes (record { point = point; stage = RemovalStage-as-Searching Unread; steps = steps }) answer) refl refl (removal_begins panel slots point) (whole_removal_ends panel slots point) found.steps (removal_after found.steps None)
+      (ap (λ (f : SearchEnd). f.steps) same) (ap (removal_after found.steps) (sym is) ∙ ap (λ (f : SearchEnd). removal_after f.steps f.answer) same) refl refl

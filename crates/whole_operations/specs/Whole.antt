@@ -1,19 +1,19 @@
 -- Whole operations: started, and stepped to their end.
-use Rattle.std.specs.Prelude.{ℕ, zero, suc, Bool, cond, not, List, eqb}
+use Rattle.std.specs.Prelude.{ℕ, zero, suc, Bool, cond, not, List, eqb, Option, Some, None, is_some, Result, Ok, Err}
 use Rattle.conditions.specs.Conditions.{either}
+use Rattle.refusal.specs.declared.Refusal.{Refusal}
 use Rattle.record.specs.declared.Record.{Record}
-use Rattle.refusal.specs.Refusals.{number_of}
 use Rattle.record.specs.Parts.{with_reach, count_of, with_count}
 use Rattle.counting.specs.declared.steps.OperationKind.TheVariants.{Lookup, Put, Removal}
 use Rattle.counting.specs.Steps.{step_bound}
-use Rattle.answers.specs.Answers.{Answer, ended, refused, paper_completion, is_underway, is_refused, Outcome}
+use Rattle.answers.specs.Answers.{Answer, ended, paper_answer, paper_completion, is_underway, is_refused, Outcome}
 use Rattle.reader_step.specs.Reader.{step_reader}
 use Rattle.reader_starts.specs.Starts.{start_lookup}
 use Rattle.writer.specs.Step.{step_writer}
 use Rattle.writer.specs.Starts.{start_put, start_removal}
+use Rattle.whole_operations.specs.declared.changes.IndexCount.{IndexCount}
 use Rattle.whole_operations.specs.declared.changes.Changes.{Changes}
-use Rattle.whole_operations.specs.declared.changes.Written.{Written}
-use Rattle.whole_operations.specs.declared.changes.Written.TheVariants.{Refused, Done}
+use Rattle.whole_operations.specs.declared.changes.Finished.{Finished}
 
 -- as many steps as the operation takes, at most n
 unfoldable pub until_ended : (Outcome → Outcome) → ℕ → Outcome → Outcome
@@ -40,47 +40,52 @@ whole_put panel slots point value = until_ended writer_step (step_bound Put pane
 unfoldable pub whole_removal : Record → List ℕ → ℕ → Outcome
 whole_removal panel slots point = until_ended writer_step (step_bound Removal panel.k) (start_removal panel slots point)
 
--- the largest index of 1 to n whose count is another in the second record, or 0
-unfoldable pub recounted_up_to : Record → Record → ℕ → ℕ
-recounted_up_to before after zero = 0
-recounted_up_to before after (suc i) = cond (eqb (count_of before (suc i)) (count_of after (suc i))) (recounted_up_to before after i) (suc i)
+-- the largest index of 1 to n whose count is another in the second record, with that count, if there is one
+unfoldable pub recounted_up_to : Record → Record → ℕ → Option IndexCount
+recounted_up_to before after zero = None
+recounted_up_to before after (suc i) =
+    cond (eqb (count_of before (suc i)) (count_of after (suc i))) (recounted_up_to before after i)
+    (Some (record { index = suc i; count = count_of after (suc i) }))
 
--- the index whose count is another than before, or 0
-unfoldable pub recounted : Record → Record → ℕ
+-- the index whose count is another than before, with its count after, if there is one
+unfoldable pub recounted : Record → Record → Option IndexCount
 recounted before after = recounted_up_to before after 64
 
--- what is another than before in a record: the reach after, the index whose count is another, or 0, and its count after, or 0
+-- what is another than before in a record: the reach after, and the count that is another
 unfoldable pub changes_between : Record → Record → Changes
-changes_between before after =
-    record { reach = after.reach; index = recounted before after; count = count_of after (recounted before after) }
+changes_between before after = record { reach = after.reach; count = recounted before after }
 
 -- "With a refusal every other number handed back is 0"
 abbrev pub zeros : Changes
-zeros = record { reach = 0; index = 0; count = 0 }
+zeros = record { reach = 0; count = None }
 
 -- the numbers that a put or removal hands back besides its answer
 unfoldable pub changes_of : Record → Outcome → Changes
 changes_of before after = cond (is_refused after.answer) zeros (changes_between before after.panel)
 
--- the same in the code's enum
-abbrev pub changes_in : Written → Changes
-changes_in (Refused r) = zeros
-changes_in (Done finished) = finished.changes
+-- the same in the code's result
+abbrev pub changes_in : Result Finished Refusal → Changes
+changes_in (Err r) = zeros
+changes_in (Ok finished) = finished.changes
 
 -- and the answer
-abbrev pub paper_written : Written → Answer
-paper_written (Refused r) = refused (number_of r)
-paper_written (Done finished) = ended (paper_completion finished.completion)
+abbrev pub paper_written : Result Finished Refusal → Answer
+paper_written = paper_answer (λ (finished : Finished). ended (paper_completion finished.completion))
 
--- a record with these changes made: the reach, and the count of one index, or of none where that is 0
+-- a record with this count of an index, or as it is where there is none
+unfoldable pub with_recount : Record → Option IndexCount → Record
+with_recount panel None = panel
+with_recount panel (Some recount) = with_count panel recount.index recount.count
+
+-- a record with these changes made: the reach, and the count of one index, or of none
 unfoldable pub leaves : Record → Changes → Record
-leaves panel changes = with_count (with_reach panel changes.reach) changes.index changes.count
+leaves panel changes = with_recount (with_reach panel changes.reach) changes.count
 
 -- the record after a put or removal: a refused one leaves it as it is
-abbrev pub record_after : Record → Written → Record
-record_after panel (Refused r) = panel
-record_after panel (Done finished) = leaves panel finished.changes
+abbrev pub record_after : Record → Result Finished Refusal → Record
+record_after panel (Err r) = panel
+record_after panel (Ok finished) = leaves panel finished.changes
 
 -- they change something in a record of this reach
 unfoldable pub changes_any : ℕ → Changes → Bool
-changes_any reach changes = either (not (eqb changes.index 0)) (not (eqb changes.reach reach))
+changes_any reach changes = either (is_some changes.count) (not (eqb changes.reach reach))

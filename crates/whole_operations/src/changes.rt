@@ -1,25 +1,26 @@
 // What a whole operation of the writer comes to.
-ghost use Rattle.std.specs.Prelude.{false, ◌≡◌};
-ghost use Rattle.record.specs.declared.Record.{Record};
-ghost use Rattle.answers.specs.Answers.{step_answer, paper_progress, is_underway};
-ghost use Rattle.whole_operations.specs.Whole.{leaves, changes_any, paper_written, changes_in, record_after};
-ghost use Rattle.whole_operations.specs.WholeFacts.{changes_made};
+ghost use Rattle.std.specs.Prelude.{◌≡◌};
+ghost use Rattle.whole_operations.specs.Whole.{leaves, changes_any, changes_between};
 
-use answers::{Completion, Progress};
-use conditions::{both_hold, either_holds, is_within};
-use record::parts::with_count;
-use record::{Record, WriterWork};
-use refusal::Refusal;
+use answers::Completion;
+use conditions::is_within;
+use record::Record;
+use record::parts::{count_in, with_count};
+
+// How many stored points use an index.
+#[derive(Clone, Copy)]
+pub struct IndexCount {
+    pub index: u32,
+    pub count: u32,
+}
 
 // What the operation changes in the record. The writer is idle again.
 #[derive(Clone, Copy)]
 pub struct Changes {
     // the reach after it
     pub reach: u32,
-    // the index whose count is another than before, or 0
-    pub index: u32,
-    // the count of that index after it, or 0
-    pub count: u32,
+    // the count that is another than before, as it is after it, if there is one
+    pub count: Option<IndexCount>,
 }
 
 // An operation that was carried out to its end.
@@ -29,78 +30,37 @@ pub struct Finished {
     pub completion: Completion,
 }
 
-// What a whole put or removal hands back. With a refusal there is no other number.
-#[derive(Clone, Copy)]
-pub enum Written {
-    Refused(Refusal),
-    Done(Finished),
-}
-
-// What the steps of an operation come to, and the work that is left where the budget was used up.
-#[derive(Clone, Copy)]
-pub(crate) struct Ran {
-    // with the index that was counted or uncounted, also where its count is as it was
-    pub changes: Changes,
-    pub progress: Progress,
-    // how many steps were made
-    pub steps: u32,
-    pub work: WriterWork,
-}
-
 // The record after the operation.
-#[tactic(auto, unfolding(crate::specs::Whole::leaves, record::specs::Parts::with_reach))]
-pub fn with_changes(panel: Record, changes: Changes) -> Record
+#[tactic(auto, unfolding(crate::specs::Whole::leaves, crate::specs::Whole::with_recount, record::specs::Parts::with_reach))]
+pub fn with_changes(mut panel: Record, changes: Changes) -> Record
     ensures { result ≡ leaves panel changes }
 {
-    let mut next = panel;
-    next.reach = changes.reach;
-    with_count(next, changes.index, changes.count)
+    panel.reach = changes.reach;
+    match changes.count {
+        Some(IndexCount { index, count }) => with_count(panel, index, count),
+        None => panel,
+    }
 }
 
 // Whether they change anything in a record of this reach.
-#[tactic(auto, unfolding(crate::specs::Whole::changes_any))]
+#[tactic(auto, unfolding(crate::specs::Whole::changes_any, conditions::specs::Conditions::either))]
 pub fn has_changes(changes: Changes, reach: u32) -> bool
     ensures { result ≡ changes_any reach changes }
 {
-    either_holds(changes.index != 0, changes.reach != reach)
+    changes.count.is_some() || changes.reach != reach
 }
 
-// The changes of an operation that counted an index, or none where that is 0: on a record that no history
-// leads to the count may be at its end already, and then no count is another than before.
-#[tactic(auto, unfolding(crate::specs::WholeFacts::changes_made))]
-fn changes_made(reach: u32, index: u32, before: u32, after: u32) -> Changes
-    ensures { result ≡ changes_made reach index before after }
-{
-    if both_hold(is_within(1, index, 64), before != after) {
-        return Changes {
-            reach: reach,
-            index: index,
-            count: after,
-        };
-    }
-    Changes {
-        reach: reach,
-        index: 0,
-        count: 0,
-    }
-}
-
-// What an operation hands back that has ended, by the count of its index before.
-pub(crate) fn handed_back(changes: Changes, before: u32, progress: Progress, steps: u32) -> Written
-    requires { is_underway (step_answer steps (paper_progress progress)) ≡ false }
-    ensures { (paper_written result ≡ step_answer steps (paper_progress progress)) × (changes_in result ≡ changes_made changes.reach changes.index before changes.count) × ((panel : Record) → record_after panel result ≡ leaves panel (changes_in result)) }
-{
-    match progress {
-        Progress::Underway => Written::Refused(Refusal::Idle),
-        Progress::Ended(ending) => {
-            let made = changes_made(changes.reach, changes.index, before, changes.count);
-            Written::Done(Finished {
-                changes: made,
-                completion: Completion {
-                    ending: ending,
-                    steps: steps,
-                },
-            })
+impl Changes {
+    // Without a count that this record has already: on one that no history leads to, a count may be at its end
+    // before the operation.
+    pub(crate) fn since(self, panel: &Record) -> Changes
+        ensures { (result ≡ changes_between panel.now (leaves panel.now self)) × (leaves panel.now result ≡ leaves panel.now self) }
+    {
+        let Changes { reach, count } = self;
+        match count {
+            Some(IndexCount { index, count })
+                if is_within(1, index, 64) && count_in(&panel.counts, index) != count => self,
+            _ => Changes { reach, count: None },
         }
     }
 }

@@ -2,14 +2,13 @@
 // hand back what they change in the record, not the record, which would be copied for it.
 #![tactic(auto)]
 
-mod budget;
 mod changes;
 mod lookup;
 mod putting;
 mod removing;
 mod searching;
 
-pub use changes::{Changes, Finished, Written, has_changes, with_changes};
+pub use changes::{Changes, Finished, IndexCount, has_changes, with_changes};
 pub use lookup::whole_lookup;
 pub use putting::whole_put;
 pub use removing::whole_removal;

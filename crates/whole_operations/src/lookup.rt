@@ -4,26 +4,26 @@ ghost use Rattle.answers.specs.Answers.{paper_whole, outcome};
 ghost use Rattle.whole_operations.specs.Whole.{whole_lookup};
 
 use crate::searching::whole_search;
-use answers::{Completion, WholeAnswer};
+use answers::Completion;
 use reader_starts::judge_lookup;
 use reader_step::lookup_ending;
 use record::Record;
-use refusal::Judged;
+use refusal::Refusal;
 
 // Looks a point up, from the start to the end, which leaves the record as it is.
 #[tactic(auto, unfolding(reader_starts::specs::Starts::start_lookup, reader_starts::specs::Starts::start_reader, crate::specs::Whole::whole_lookup))]
-pub fn whole_lookup(panel: Record, slots: &[u64], reader: u32, point: u32) -> WholeAnswer
+pub fn whole_lookup(
+    panel: Record,
+    slots: &[u64],
+    reader: u32,
+    point: u32,
+) -> Result<Completion, Refusal>
     ensures { outcome panel slots.now (paper_whole result) ≡ whole_lookup panel slots.now reader point }
 {
-    match judge_lookup(panel, slots.len(), reader, point) {
-        Judged::Refused(refusal) => WholeAnswer::Refused(refusal),
-        Judged::Allowed => {
-            let found = whole_search(slots, panel.m, point, panel.reach);
-            let answer = found.answer;
-            WholeAnswer::Ended(Completion {
-                ending: lookup_ending(answer),
-                steps: found.steps,
-            })
-        }
-    }
+    judge_lookup(panel, slots.len(), reader, point)?;
+    let found = whole_search(slots, panel.m, point, panel.reach);
+    Ok(Completion {
+        ending: lookup_ending(found.answer),
+        steps: found.steps,
+    })
 }

@@ -1,16 +1,16 @@
-// The search of a whole operation, which lookups, puts, changes and removals share.
+// The search of a whole operation, which lookups, puts and removals share.
 ghost use Rattle.std.specs.Prelude.{suc, ◌≤◌, ◌≡◌};
 ghost use Rattle.record.specs.declared.Search.TheVariants.{Unread};
 ghost use Rattle.whole_operations.specs.WholeFacts.{search_end};
 
-use record::{Probe, Search};
+use record::{Place, Probe, Search};
 use search::access::word_read;
-use search::{SearchAnswer, Searched, search_access, search_advance};
+use search::{Searched, search_access, search_advance};
 
 // What a search came to, and how many steps it took.
 #[derive(Clone, Copy)]
 pub(crate) struct SearchEnd {
-    pub answer: SearchAnswer,
+    pub answer: Option<Place>,
     pub steps: u32,
 }
 
@@ -20,26 +20,19 @@ pub(crate) fn whole_search(slots: &[u64], m: u32, point: u32, reach: u32) -> Sea
     requires { reach ≤ 64 }
     ensures { result ≡ search_end slots.now m point reach (suc reach) 0 Unread }
 {
-    let mut next = 1;
-    // the step that reads the reach, and one for each position read
-    let mut steps = 1;
-    while next <= reach {
-        let search = Search::Probing(Probe {
-            reach: reach,
-            next: next,
-        });
+    for next in 1..=reach {
+        let search = Search::Probing(Probe { reach, next });
         let word = word_read(slots, search_access(search, point, m));
-        steps += 1;
         if let Searched::Answered(answer) = search_advance(search, point, reach, word) {
+            // the step that read the reach, and one for each position
             return SearchEnd {
-                answer: answer,
-                steps: steps,
+                answer,
+                steps: next + 1,
             };
         }
-        next += 1;
     }
     SearchEnd {
-        answer: SearchAnswer::Unknown,
-        steps: steps,
+        answer: None,
+        steps: reach + 1,
     }
 }

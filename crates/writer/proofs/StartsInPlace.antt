@@ -1,14 +1,13 @@
 -- What a start hands back, stored in the record, makes of it what the start makes of the record.
 use Prim.Native.Nat.{ℕ, zero, suc}
-use mathlib.Core.Path.{◌≡◌, refl, ap, ◌∙◌}
-use mathlib.Core.Bool.{Bool}
+use mathlib.Core.Path.{◌≡◌, refl}
 use mathlib.Core.List.{List}
 use lib.ListN.{length}
 use Rattle.record.specs.declared.Record.{Record}
 use Rattle.record.specs.declared.WriterWork.{WriterWork}
 use Rattle.record.specs.Parts.{with_writer}
 use Rattle.record_ranges.specs.Ranges.{in_range}
-use Rattle.answers.specs.Answers.{Answer, started, Outcome, outcome, unless_refused}
+use Rattle.answers.specs.Answers.{started, Outcome, outcome, unless_refused}
 use Rattle.writer.specs.Starts.{start_refusal, start_writer, put_begun, change_begun, removal_begun, start_put, start_change, start_removal, StartedWork, started_work, start_work}
 
 -- the record with what a start hands back stored in it, the slots and the answer
@@ -35,10 +34,3 @@ module _ (panel : Record) (slots : List ℕ) (point : ℕ) where
   pub removal_in_place : started_in panel slots (start_work (in_range (length slots) panel) panel.writer.work point (removal_begun point)) ≡ start_removal panel slots point
   unfolding start_removal
   removal_in_place = start_in_place (removal_begun point)
-
--- the same of a record, an answer and a verdict that are told by equations
-pub start_stored : (panel : Record) (slots : List ℕ) (point : ℕ) (new : WriterWork) {after : Record} {answer : Answer} {fits : Bool} {next : StartedWork} → after ≡ with_writer panel next.work → answer ≡ next.answer → next ≡ start_work fits panel.writer.work point new → fits ≡ in_range (length slots) panel → outcome after slots answer ≡ start_writer panel slots point new
-start_stored panel slots point new same-record same_answer same_start same-range =
-    (λ j. outcome (same-record j) slots (same_answer j))
-    ∙ ap (started_in panel slots) (same_start ∙ ap (λ (fits : Bool). start_work fits panel.writer.work point new) same-range)
-    ∙ start_in_place panel slots point new

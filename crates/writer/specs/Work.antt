@@ -94,6 +94,12 @@ stores m reach counts station after =
       answer = after.answer;
     }
 
+-- what the writer's step stores in a record, by whether the record is in range
+abbrev pub step_stores : Bool → Record → List ℕ → StepStores
+step_stores fits panel slots =
+    stores panel.m panel.reach panel.counts (get_or panel.stations (station_at panel.writer.work) unheard_station)
+    (step_work fits panel.m panel.k panel.reach panel.counts panel.writer.work slots)
+
 -- a record with these stored, the station's last command at this place; the slots and the answer
 abbrev pub stored_in : Record → ℕ → StepStores → Outcome
 stored_in panel place next =
@@ -105,7 +111,4 @@ stored_in panel place next =
 
 -- the writer's step on a record that has been judged: of one in range it is the writer's step
 unfoldable pub step_stored : Bool → Record → List ℕ → Outcome
-step_stored fits panel slots =
-    stored_in panel (station_at panel.writer.work)
-    (stores panel.m panel.reach panel.counts (get_or panel.stations (station_at panel.writer.work) unheard_station)
-    (step_work fits panel.m panel.k panel.reach panel.counts panel.writer.work slots))
+step_stored fits panel slots = stored_in panel (station_at panel.writer.work) (step_stores fits panel slots)

@@ -3,21 +3,19 @@
 ghost use Rattle.std.specs.Prelude.{◌≡◌};
 ghost use Rattle.refusal.specs.Refusals.{paper_judged};
 ghost use Rattle.effects.specs.Effects.{paper_effect};
-ghost use Rattle.writer.specs.Step.{work_access, work_advance, work_refusal};
-ghost use Rattle.writer.specs.Work.{paper_work, work_runs, step_work, station_underway, station_at, paper_stores, stores};
+ghost use Rattle.writer.specs.Step.{writer_access, writer_advance, work_refusal};
+ghost use Rattle.writer.specs.Work.{paper_work, work_runs, step_work, station_underway, station_at, paper_stores, step_stores};
 
-use answers::{StepAnswer, result_of};
+use answers::{StepResult, result_of};
 use change::{change_access, change_advance, commanding_station};
 use counting::steps::{steps_made, writer_counted};
 use effects::memory::{WriterAccess, perform, slot_stored};
-use effects::update::{
-    Effect, Update, count_after, count_place, reach_after, station_after, underway,
-};
+use effects::update::{Effect, Update, underway};
 use put::{put_access, put_advance};
 use record::idle::is_writer_idle;
 use record::parts::numbered_place;
-use record::{Station, Writer, WriterWork};
-use refusal::{Judged, Refusal};
+use record::{Record, Station, Writer, WriterWork};
+use refusal::Refusal;
 use removal::{removal_access, removal_advance};
 use search::access::ReadAccess;
 
@@ -32,7 +30,7 @@ pub struct SteppedWriter {
     pub count: u32,
     // the last command of the station at `station_at`
     pub station: Station,
-    pub answer: StepAnswer,
+    pub answer: Result<StepResult, Refusal>,
 }
 
 // The work after a step, what changes in the record besides, and the answer.
@@ -40,109 +38,78 @@ pub struct SteppedWriter {
 pub(crate) struct WorkStep {
     pub work: WriterWork,
     pub update: Update,
-    pub answer: StepAnswer,
+    pub answer: Result<StepResult, Refusal>,
 }
 
 // Part 1: the access that comes next.
 #[tactic(auto, unfolding(crate::specs::Step::work_access))]
-pub fn writer_access(
-    m: u32,
-    k: u32,
-    reach: u32,
-    counts: &[u32; 64],
-    work: WriterWork,
-) -> WriterAccess
-    ensures { result ≡ work_access m k reach counts.now work }
+pub fn writer_access(panel: &Record, work: WriterWork) -> WriterAccess
+    ensures { result ≡ writer_access panel.now work }
 {
     match work {
         WriterWork::Idle => WriterAccess::Read(ReadAccess::Nothing),
-        WriterWork::Putting(put) => put_access(put, m, reach),
-        WriterWork::Changing(change) => change_access(change, m),
-        WriterWork::Removing(removal) => removal_access(m, k, counts, removal),
+        WriterWork::Putting(put) => put_access(put, panel.m, panel.reach),
+        WriterWork::Changing(change) => change_access(change, panel.m),
+        WriterWork::Removing(removal) => removal_access(removal, panel),
     }
 }
 
 // Part 3: what follows from the reach, from the word read, or from the slot stored. A writer without work
 // never comes to it: its step is refused with 5.
 #[tactic(auto, unfolding(crate::specs::Step::work_advance))]
-pub fn writer_advance(
-    k: u32,
-    reach: u32,
-    counts: &[u32; 64],
-    work: WriterWork,
-    slot: u32,
-    word: u64,
-) -> Effect
-    ensures { paper_effect result ≡ work_advance k reach counts.now work slot word }
+pub fn writer_advance(panel: &Record, work: WriterWork, slot: u32, word: u64) -> Effect
+    ensures { paper_effect result ≡ writer_advance panel.now work slot word }
 {
     match work {
         WriterWork::Idle => underway(WriterWork::Idle),
-        WriterWork::Putting(put) => put_advance(put, k, reach, slot, word),
-        WriterWork::Changing(change) => change_advance(change, reach, word),
-        WriterWork::Removing(removal) => removal_advance(k, reach, counts, removal, word),
+        WriterWork::Putting(put) => put_advance(put, panel.k, panel.reach, slot, word),
+        WriterWork::Changing(change) => change_advance(change, panel.reach, word),
+        WriterWork::Removing(removal) => removal_advance(removal, panel, word),
     }
 }
 
 // Document 01's order: 1, 5.
 #[tactic(auto, unfolding(refusal::specs::Judging::refuse_if, crate::specs::Step::work_refusal))]
-fn judge_step(fits: bool, work: WriterWork) -> Judged
+fn judge_step(fits: bool, work: WriterWork) -> Result<(), Refusal>
     ensures { paper_judged result ≡ work_refusal fits work }
 {
     if !fits {
-        return Judged::Refused(Refusal::Misfit);
+        return Err(Refusal::Misfit);
     }
     if is_writer_idle(work) {
-        return Judged::Refused(Refusal::Idle);
+        return Err(Refusal::Idle);
     }
-    Judged::Allowed
+    Ok(())
 }
 
 // The three parts of a step of work that counts it.
 #[tactic(auto, unfolding(crate::specs::Work::after_access, crate::specs::Work::work_runs))]
-fn run_step(
-    m: u32,
-    k: u32,
-    reach: u32,
-    counts: &[u32; 64],
-    work: WriterWork,
-    slots: &mut [u64],
-) -> WorkStep
-    ensures { paper_work result slots.new ≡ work_runs m k reach counts.now work slots.old }
+fn run_step(panel: &Record, work: WriterWork, slots: &mut [u64]) -> WorkStep
+    ensures { paper_work result slots.new ≡ work_runs panel.now.m panel.now.k panel.now.reach panel.now.counts work slots.old }
 {
-    let access = writer_access(m, k, reach, counts, work);
+    let access = writer_access(panel, work);
     let word = perform(slots, access);
-    let slot = slot_stored(access);
-    let effect = writer_advance(k, reach, counts, work, slot, word);
-    let next = effect.work;
-    let update = effect.update;
-    let progress = effect.progress;
+    let effect = writer_advance(panel, work, slot_stored(access), word);
     WorkStep {
-        work: next,
-        update: update,
-        answer: StepAnswer::Stepped(result_of(progress, steps_made(work))),
+        work: effect.work,
+        update: effect.update,
+        answer: Ok(result_of(effect.progress, steps_made(work))),
     }
 }
 
 // A step is counted and made, unless it is refused.
-#[tactic(auto, unfolding(crate::specs::Work::step_work))]
-fn judged_step(
-    fits: bool,
-    m: u32,
-    k: u32,
-    reach: u32,
-    counts: &[u32; 64],
-    work: WriterWork,
-    slots: &mut [u64],
-) -> WorkStep
-    ensures { paper_work result slots.new ≡ step_work fits m k reach counts.now work slots.old }
+#[tactic(auto, using(answers::proofs::AnswerLaws::refused_call, answers::proofs::AnswerLaws::allowed_call), unfolding(crate::specs::Work::step_work))]
+fn judged_step(panel: &Record, fits: bool, slots: &mut [u64]) -> WorkStep
+    ensures { paper_work result slots.new ≡ step_work fits panel.now.m panel.now.k panel.now.reach panel.now.counts panel.now.writer.work slots.old }
 {
+    let work = panel.writer.work;
     match judge_step(fits, work) {
-        Judged::Refused(refusal) => WorkStep {
-            work: work,
+        Err(refusal) => WorkStep {
+            work,
             update: Update::Nothing,
-            answer: StepAnswer::Refused(refusal),
+            answer: Err(refusal),
         },
-        Judged::Allowed => run_step(m, k, reach, counts, writer_counted(work, k), slots),
+        Ok(()) => run_step(panel, writer_counted(work, panel.k), slots),
     }
 }
 
@@ -151,13 +118,8 @@ fn station_underway(work: WriterWork) -> u32
     ensures { result ≡ station_underway work }
 {
     match work {
-        WriterWork::Idle => 0,
-        WriterWork::Putting(_) => 0,
-        WriterWork::Changing(change) => {
-            let alteration = change.alteration;
-            commanding_station(alteration)
-        }
-        WriterWork::Removing(_) => 0,
+        WriterWork::Changing(change) => commanding_station(change.alteration),
+        _ => 0,
     }
 }
 
@@ -166,37 +128,24 @@ fn station_underway(work: WriterWork) -> u32
 pub fn station_at(writer: Writer) -> usize
     ensures { result ≡ station_at writer.work }
 {
-    let work = writer.work;
-    numbered_place(station_underway(work), 32)
+    numbered_place(station_underway(writer.work), 32)
 }
 
-// The next step of a writer, by whether the record is in range, by its numbers and counts, and by the last
-// command of the station at `station_at`.
-pub fn step_work(
-    counts: &[u32; 64],
-    fits: bool,
-    m: u32,
-    k: u32,
-    reach: u32,
-    writer: Writer,
-    station: Station,
-    slots: &mut [u64],
-) -> SteppedWriter
-    ensures { paper_stores result slots.new ≡ stores m reach counts.now station (step_work fits m k reach counts.now writer.work slots.old) }
+// The next step of the writer of a record, by whether that is in range.
+#[tactic(auto, using(effects::proofs::EffectLaws::count_place_below, crate::proofs::WorkLaws::station_at_below))]
+pub fn step_work(panel: &Record, fits: bool, slots: &mut [u64]) -> SteppedWriter
+    ensures { paper_stores result slots.new ≡ step_stores fits panel.now slots.old }
 {
-    let work = writer.work;
-    let after = judged_step(fits, m, k, reach, counts, work, slots);
-    let next = after.work;
+    let after = judged_step(panel, fits, slots);
     let update = after.update;
-    let answer = after.answer;
-    let at = count_place(update);
-    let count = counts[at];
+    let at = update.count_place();
+    let station = panel.stations[station_at(panel.writer)];
     SteppedWriter {
-        writer: Writer { work: next },
-        reach: reach_after(reach, update),
-        at: at,
-        count: count_after(m, update, count),
-        station: station_after(update, station),
-        answer: answer,
+        writer: Writer { work: after.work },
+        reach: update.reach_after(panel.reach),
+        at,
+        count: update.count_after(panel.m, panel.counts[at]),
+        station: update.station_after(station),
+        answer: after.answer,
     }
 }

@@ -1,19 +1,21 @@
 -- `command::receive_command` meets its contract: an empty string, another map byte, or what the frame reader says.
-use mathlib.Core.Path.{ap, ◌∙◌}
-use borrow.Author.Tests.{ne_eqb}
-use Rattle.command.specs.declared.Sent.{Sent}
-use Rattle.command.proofs.FrameTaken.{command_taken, refusal_taken}
+use Rattle.std.proofs.lemmas.Result.{err_from_is_err_and}
+use Rattle.command.proofs.FrameTaken.{nothing_taken, other_map_taken, command_taken, refusal_taken}
 use Rattle.command.proofs.receive_command.Goals as goal
 
-pub returns-in-Frame : goal.returns-in-Frame
-returns-in-Frame c =
-    let s = c.args.bytes.now in
-    ap (λ (sent : Sent). record { refused = 0; sent = sent }) c.sent_of.ensures
-    ∙ command_taken s (ne_eqb _ _ c.if-bytes-eq0.false) c.if-map-ne15.false c.in-Frame.field-0 c.in-Frame.fields
-    c.in-Frame.ensures
+pub returns-in_default : goal.returns-in_default
+returns-in_default c = nothing_taken c.args.bytes.now c.in_default.ensures.value
 
-pub returns-in-Refused : goal.returns-in-Refused
-returns-in-Refused c =
-    let s = c.args.bytes.now in
-    refusal_taken s (ne_eqb _ _ c.if-bytes-eq0.false) c.if-map-ne15.false c.in-Refused.refusal
-    c.in-Refused.ensures
+pub returns-then-map-ne15 : goal.returns-then-map-ne15
+returns-then-map-ne15 c = other_map_taken c.args.bytes.now c.in-Some.field-0.now c.in-Some.ensures.value c.if-map-ne15.true
+
+pub returns-in_err-read : goal.returns-in_err-read
+returns-in_err-read c =
+    let p = err_from_is_err_and c.from_residual.result c.from_residual.ensures.1 in
+    let first = rw c.if-map-ne15.false at c.in-Some.ensures.value in
+    rw (p.1, p.2) (refusal_taken c.args.bytes.now first c.in_err-read.field-0.0 c.in_err-read.ensures)
+
+pub returns : goal.returns
+returns c =
+    let first = rw c.if-map-ne15.false at c.in-Some.ensures.value in
+    rw c.from.ensures (command_taken c.args.bytes.now first c.in_ok-read.field-0 c.in_ok-read.ensures)

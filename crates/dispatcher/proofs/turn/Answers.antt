@@ -17,7 +17,7 @@ returns-then-due-eq0 c =
     let s = a.slots.now in
     let due = c.party_due-due in
     let all : length p.readers ≡ 16 = search rules in
-    let is : due_on (length s) p ≡ due.result = sym (due.ensures ∙ (λ j. due_by (c.is_in_range-fits.ensures j) p.place p.writer.work (c.readers_marked.ensures j))) in
+    let is : due_on (length s) p ≡ due.result = sym (due.ensures ∙ (λ j. due_by (c.is_in_range-fits.ensures j) p.place p.writer.work (c.readers_marked-marks.ensures j))) in
     c.writer_turn.ensures
     ∙ sym (ap (λ (b : Bool). cond b (writer_turn p s) (reader_turn due.result p s)) (eq-eqb due.result 0 c.if-due-eq0.true))
     ∙ turn_by_due p s all due.result is
@@ -30,7 +30,7 @@ returns-else-due-eq0 c =
     let s = a.slots.now in
     let due = c.party_due-due in
     let all : length p.readers ≡ 16 = search rules in
-    let is : due_on (length s) p ≡ due.result = sym (due.ensures ∙ (λ j. due_by (c.is_in_range-fits.ensures j) p.place p.writer.work (c.readers_marked.ensures j))) in
+    let is : due_on (length s) p ≡ due.result = sym (due.ensures ∙ (λ j. due_by (c.is_in_range-fits.ensures j) p.place p.writer.work (c.readers_marked-marks.ensures j))) in
     c.reader_turn.ensures
     ∙ sym (ap (λ (b : Bool). cond b (writer_turn p s) (reader_turn due.result p s)) (ne_eqb due.result 0 c.if-due-eq0.false))
     ∙ turn_by_due p s all due.result is

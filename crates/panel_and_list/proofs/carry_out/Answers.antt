@@ -5,8 +5,5 @@ use Rattle.panel_and_list.proofs.carry_out.Goals as goal
 pub returns : goal.returns
 returns c =
     let a = c.args in
-    let done = c.apply-done in
     let feeds = c.feeds_now-feeds.ensures a.frame.now in
-    let notes = c.notes_now in
-    let rows = c.rows_now in
-    carried_out a.before a.slots.now a.words.now a.places.now a.call a.frame.now _ _ _ _ feeds done.ensures rows.ensures notes.ensures
+    carried_out a.state.now a.slots.now a.rows.now a.call a.frame.now _ _ _ _ feeds c.apply-done.ensures c.feed_list.ensures c.after-state.ensures

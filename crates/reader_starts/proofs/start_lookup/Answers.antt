@@ -12,8 +12,9 @@ returns c =
     let a = c.args in
     let p = a.panel in
     let s = a.slots.now in
+    let put = c.put_back.ensures in
     let fits = c.is_in_range-fits.ensures in
     let work = c.work_of.ensures in
-    (λ j. outcome (c.finish.ensures.0 j) s (paper_start (c.finish.ensures.1 j)))
+    (λ j. outcome (put.work j) s (paper_start (put.answer j)))
     ∙ ap (after_step p s a.reader) (c.lookup_started.ensures ∙ (λ j. lookup_work (fits j) a.reader a.point (work j)))
     ∙ lookup_by_work p s a.reader a.point

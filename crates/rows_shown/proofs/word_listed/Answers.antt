@@ -1,33 +1,18 @@
--- `rows_shown::word_listed` meets its contract, by the rows so far.
-use Prim.Native.Nat.{ℕ}
-use mathlib.Core.Bool.{cond}
-use mathlib.Core.Path.{◌≡◌, refl, ap, ap₂, ◌∙◌}
-use native.Mathlib.Omega.{arith}
-use lib.Dec.{eqb}
-use lib.ListN.{get_or}
-use Rattle.plain_rows.specs.Rows.{rows_of}
-use Rattle.rows_shown.specs.Verdict.{word_listed}
-use Rattle.rows_shown.proofs.VerdictLaws.{listed_more}
-use borrow.Author.Rules.{rules}
+-- `rows_shown::word_listed` meets its contract.
+use Rattle.std.proofs.Common.{◌≡◌, ◌∙◌, ap, sym, rules, tests}
+use Rattle.std.specs.Prelude.{◌==◌}
+use Rattle.std.specs.Option.{option_map_or}
+use Rattle.std.proofs.lemmas.Iterator.Adapters.{YieldsList-from_rev_slice, option_map_id}
+use Rattle.std.proofs.lemmas.Iterator.Consumers.{YieldsList-at, YieldsList-from_copied}
+use Rattle.std.proofs.lemmas.Iterator.Search.{find_from_yields_List}
+use Rattle.plain_rows.specs.declared.Row.{Row}
+use Rattle.rows_shown.proofs.VerdictLaws.{listed_found}
 use Rattle.rows_shown.proofs.word_listed.Goals as goal
-
-pub loop-row-init : goal.loop-row-init
-unfolding word_listed rows_of
-loop-row-init c = (search rules, refl)
-
-pub loop-row-preserved : goal.loop-row-preserved
-loop-row-preserved c =
-    let a = c.args in
-    let loop = c.loop-row in (
-      search rules,
-      c.later-listed.ensures
-          ∙ ap₂ (λ (there word : ℕ). cond (eqb there a.place) word loop.listed) c.place_at.ensures c.word_at.ensures
-          ∙ ap (cond (eqb (get_or a.places.now loop.row 0) a.place) (get_or a.words.now loop.row 0)) loop.invariant.1
-          ∙ listed_more a.words.now a.places.now loop.row a.place,
-    )
 
 pub returns : goal.returns
 returns c =
-    let a = c.args in
-    let e : c.loop-row.row ≡ a.rows = omega arith in
-    c.loop-row.invariant.1 ∙ ap (λ (row : ℕ). word_listed a.place (rows_of a.words.now a.places.now row)) e
+    let found = find_from_yields_List (λ r. r.place == c.args.place) _ _ c.find.result c.find.ensures.ran (YieldsList-from_copied (YieldsList-at c.copied.ensures.source (YieldsList-from_rev_slice c.args.rows.now (cc)))) (λ x b q k. search (rules, tests)) in
+    let read : c.map_or.result ≡ option_map_or (λ (r : Row). r.word) c.find.result 0 = search rules in
+    read
+    ∙ ap (λ o. option_map_or (λ (r : Row). r.word) o 0) (sym (option_map_id c.find.result) ∙ found)
+    ∙ listed_found c.args.place c.args.rows.now

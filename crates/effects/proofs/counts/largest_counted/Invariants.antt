@@ -4,6 +4,3 @@ use Rattle.effects.proofs.counts.largest_counted.Given as goal
 
 abbrev pub invariant-loop-index : goal.invariant-loop-index
 invariant-loop-index l = largest_up_to l.counts l.index ≡ largest_counted l.k l.counts
-
-abbrev pub decreases-loop-index : goal.decreases-loop-index
-decreases-loop-index l = l.index

@@ -22,7 +22,7 @@ loop-i-preserved c =
       even = omega arith;
       whole = λ h. all;
       tested =
-          joined_twice (reader_in_range a.m a.k) rs l.seen.fit one.result.fit two.result.fit l.i _ (omega arith) one.ensures.0 two.ensures.0
+          joined_twice (reader_in_range a.panel.now.m a.panel.now.k) rs l.seen.fit one.result.fit two.result.fit l.i _ (omega arith) one.ensures.0 two.ensures.0
           ∙ l.invariant.tested;
       marked =
           ap (λ (marks : ℕ). marked_behind marks (drop (l.i + 1 + 1) rs)) two.ensures.1
@@ -39,6 +39,6 @@ returns c =
     let l = c.loop-i in
     let rs = a.panel.now.readers in
     let all : length rs ≡ 16 = l.invariant.whole (omega arith) in (
-      sym (joined_done (reader_in_range a.m a.k) rs l.seen.fit l.i (omega arith)) ∙ l.invariant.tested,
+      sym (joined_done (reader_in_range a.panel.now.m a.panel.now.k) rs l.seen.fit l.i (omega arith)) ∙ l.invariant.tested,
       sym (marked_done rs l.seen.marks l.i (omega arith)) ∙ l.invariant.marked,
     )

@@ -9,7 +9,7 @@ invariant-loop-i l = record {
   upto : l.i ≤ 16;
   even : l.i % 2 ≡ 0;
   whole : 0 < l.i → length l.panel.readers ≡ 16;
-  tested : both l.seen.fit (readers_in_range l.m l.k (drop l.i l.panel.readers)) ≡ readers_in_range l.m l.k l.panel.readers;
+  tested : both l.seen.fit (readers_in_range l.panel.m l.panel.k (drop l.i l.panel.readers)) ≡ readers_in_range l.panel.m l.panel.k l.panel.readers;
   marked : marked_behind l.seen.marks (drop l.i l.panel.readers) ≡ marked_behind 0 l.panel.readers;
 }
 

@@ -17,7 +17,7 @@ loop-i-preserved c =
       even = omega arith;
       whole = λ h. all;
       tested =
-          joined_twice (reader_in_range a.m a.k) a.panel.now.readers l.fit c.reader_joined-fit.result c.reader_joined-fit-in-loop-i.result l.i _ (omega arith)
+          joined_twice (reader_in_range a.panel.now.m a.panel.now.k) a.panel.now.readers l.fit c.reader_joined-fit.result c.reader_joined-fit-in-loop-i.result l.i _ (omega arith)
           c.reader_joined-fit.ensures c.reader_joined-fit-in-loop-i.ensures
           ∙ l.invariant.tested;
     }
@@ -28,4 +28,4 @@ returns c =
     let a = c.args in
     let l = c.loop-i in
     let all : length a.panel.now.readers ≡ 16 = l.invariant.whole (omega arith) in
-    sym (joined_done (reader_in_range a.m a.k) a.panel.now.readers l.fit l.i (omega arith)) ∙ l.invariant.tested
+    sym (joined_done (reader_in_range a.panel.now.m a.panel.now.k) a.panel.now.readers l.fit l.i (omega arith)) ∙ l.invariant.tested

@@ -4,14 +4,14 @@ use Rattle.history.specs.Log.{as_change}
 use Rattle.panel_and_list.proofs.KeptLaws.{frame_sent, frame_not_refused}
 use Rattle.panel_and_list.proofs.kept_list.commanded.Goals as goal
 
-pub returns-in-Frame : goal.returns-in-Frame
+pub returns-in-Ok : goal.returns-in-Ok
 unfolding as_change
-returns-in-Frame c allowed =
+returns-in-Ok c allowed =
     let bytes = c.args.frame.now in
     c.change_of.ensures
-    ∙ ap as_change (frame_sent bytes allowed c.in-Frame.field-0 c.in-Frame.fields c.in-Frame.ensures)
+    ∙ ap as_change (frame_sent bytes allowed c.in-Ok.read c.in-Ok.ensures)
 
-pub returns-in-Refused : goal.returns-in-Refused
-returns-in-Refused c allowed =
+pub returns-in-Err : goal.returns-in-Err
+returns-in-Err c allowed =
     let bytes = c.args.frame.now in
-    absurd (frame_not_refused bytes allowed c.in-Refused.field-0 c.in-Refused.ensures)
+    absurd (frame_not_refused bytes allowed c.in-Err.field-0 c.in-Err.ensures)

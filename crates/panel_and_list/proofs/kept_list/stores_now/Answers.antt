@@ -15,4 +15,4 @@ returns c frame =
     (c.both_hold-stores.ensures
     ∙ ap₂ both (ap not c.is_refused.ensures)
     (c.stores_slot.ensures ∙ ap stores_slot c.writer_access-access.ensures))
-    ∙ stores_by_step a.panel (paper_call a.answer) frame a.call
+    ∙ stores_by_step a.panel.now (paper_call a.answer) frame a.call

@@ -1,10 +1,5 @@
-use Prim.Native.Nat.{◌+◌, ◌-◌}
-use mathlib.Core.Path.{◌≡◌}
 use Rattle.whole_operations.proofs.WholeSearch.{FromIndex}
 use Rattle.whole_operations.proofs.searching.whole_search.Given as goal
 
 abbrev pub invariant-loop-next : goal.invariant-loop-next
-invariant-loop-next l = FromIndex l.slots l.m l.point l.reach l.next × (l.steps ≡ l.next)
-
-abbrev pub decreases-loop-next : goal.decreases-loop-next
-decreases-loop-next l = l.reach + 1 - l.next
+invariant-loop-next l = FromIndex l.slots l.m l.point l.reach l.next

@@ -1,5 +1,5 @@
 -- Document 01, "Steps": the two answers that "are taken from the slots as they are at any moment".
-use Rattle.std.specs.Prelude.{ℕ, ◌≡◌, Bool, true, false, cond, List, [], ◌∷◌, length, map, filter, Contains}
+use Rattle.std.specs.Prelude.{ℕ, ◌≤◌, ◌≡◌, Bool, true, false, cond, List, [], ◌∷◌, length, map, filter, All, Contains, Option, None, Some}
 use Rattle.conditions.specs.Conditions.{both}
 use Rattle.record.specs.declared.Record.{Record}
 use Rattle.slot_words.specs.Points.{valid_point, disabled}
@@ -24,3 +24,8 @@ pub data MayDisplay (panel : Record) (slots : List ℕ) : Answer → Type 0 wher
   misfit : in_range (length slots) panel ≡ false → MayDisplay panel slots (refused 1)
   shown : (point : ℕ) → in_range (length slots) panel ≡ true → Contains (disabled_points slots) point → MayDisplay panel slots (gives (point ∷ []))
   none : in_range (length slots) panel ≡ true → disabled_points slots ≡ [] → MayDisplay panel slots (refused 7)
+
+-- the lowest of the points, or none if there are none (cited by a private function only)
+abbrev pub Lowest : List ℕ → Option ℕ → Type 0
+Lowest points None = points ≡ []
+Lowest points (Some point) = Contains points point × All (λ (other : ℕ). point ≤ other) points

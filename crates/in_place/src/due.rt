@@ -59,17 +59,21 @@ fn readers_seen(panel: &Record) -> Seen
 pub(crate) fn due_at(panel: &Record, lent: usize) -> u32
     ensures { result ≡ due_by (in_range lent panel.now) panel.now.place panel.now.writer.work (marked_behind 0 panel.now.readers) }
 {
+    // copied once for the two that take it
+    let writer = panel.writer;
+    let counts = are_counts_in_range(&panel.counts, panel.m, panel.k);
     let seen = readers_seen(panel);
+    let stations = are_stations_in_range(panel);
     let fits = are_parts_in_range(
         lent,
         panel.m,
         panel.k,
         panel.reach,
-        are_counts_in_range(&panel.counts, panel.m, panel.k),
-        panel.writer,
+        counts,
+        writer,
         seen.fit,
-        are_stations_in_range(panel),
+        stations,
         panel.place,
     );
-    party_due(fits, panel.place, panel.writer, seen.marks)
+    party_due(fits, panel.place, writer, seen.marks)
 }

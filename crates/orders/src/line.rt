@@ -1,4 +1,4 @@
-// The bytes of a line, put together one by one.
+// The bytes of a line, put together of the pieces that are read.
 use crate::faults::Fault;
 use crate::reading::{Order, is_comment, order_of};
 
@@ -20,11 +20,12 @@ impl Line {
         }
     }
 
-    pub(crate) fn push(&mut self, byte: u8) {
-        if let Some(place) = self.bytes.get_mut(self.length) {
-            *place = byte;
+    pub(crate) fn extend(&mut self, piece: &[u8]) {
+        if let Some(room) = self.bytes.get_mut(self.length..) {
+            let count = room.len().min(piece.len());
+            room[..count].copy_from_slice(&piece[..count]);
         }
-        self.length = self.length.saturating_add(1);
+        self.length = self.length.saturating_add(piece.len());
     }
 
     pub(crate) fn clear(&mut self) {

@@ -59,13 +59,12 @@ fn carry_out_part<W: Write>(
     run: &mut Run,
     output: &mut W,
 ) -> io::Result<()> {
-    for byte in part {
-        if *byte == b'\n' {
-            run.carry_out(line, output)?;
-            line.clear();
-        } else {
-            line.push(*byte);
-        }
+    let mut pieces = part.split(|byte| *byte == b'\n');
+    line.extend(pieces.next().unwrap_or(&[]));
+    for piece in pieces {
+        run.carry_out(line, output)?;
+        line.clear();
+        line.extend(piece);
     }
     Ok(())
 }

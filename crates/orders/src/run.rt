@@ -49,7 +49,10 @@ impl<'a> Run<'a> {
         let made = fresh(&mut self.slots[..lent], m, k);
         match made.answer {
             Ok(()) => {
-                self.state = Some(PanelState::opened(made.panel));
+                match &mut self.state {
+                    Some(state) => state.open_anew(made.panel),
+                    None => self.state = Some(PanelState::opened(made.panel)),
+                }
                 writeln!(out, "{} panel {m} {k}: made", self.number)
             }
             Err(refusal) => writeln!(out, "{} panel {m} {k}: refused: {refusal}", self.number),

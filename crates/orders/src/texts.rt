@@ -4,6 +4,7 @@ use calls::Call;
 use refusal::Refusal;
 use slot_words::word::{point_of, value_of};
 use std::fmt;
+use text_buffer::TextBuffer;
 
 // Shows what it holds in those words.
 #[derive(Clone, Copy)]
@@ -109,13 +110,31 @@ impl fmt::Display for Asked<'_> {
             Call::StartRemoval { point } => write!(f, "remove {point}"),
             Call::StartCommand => {
                 f.write_str("command")?;
-                for byte in self.frame {
-                    write!(f, " {byte:02X}")?;
+                // `{byte:02X}` takes some three times as long
+                for bytes in self.frame.chunks(32) {
+                    let mut text = TextBuffer::<96>::new();
+                    for byte in bytes {
+                        text.push(b' ');
+                        text.push(digit(*byte / 16));
+                        text.push(digit(*byte % 16));
+                    }
+                    let used = text.used;
+                    let shown = text.bytes.get(..used).unwrap_or(&[]);
+                    f.write_str(str::from_utf8(shown).unwrap_or(""))?;
                 }
                 Ok(())
             }
             Call::StepWriter => f.write_str("step writer"),
             Call::Turn => f.write_str("turn"),
         }
+    }
+}
+
+// The hexadecimal digit of a half of a byte.
+fn digit(half: u8) -> u8 {
+    match half {
+        0..=9 => b'0' + half,
+        10..=15 => b'A' + (half - 10),
+        _ => b'?',
     }
 }

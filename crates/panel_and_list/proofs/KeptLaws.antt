@@ -274,6 +274,11 @@ unfolding opened_state
 opened_beside panel state list e none =
     record { same = ap (λ (s : LentState). s.panel) e; notes = ap (λ (s : LentState). s.notes) e; rows_none = none }
 
+-- and with the entries of a panel that was there before
+pub opened_again : (panel : Record) (state : LentState) (rows : List RowHeld) → state ≡ opened_state panel → Opened panel (record { panel = state.panel; notes = state.notes; count = state.count }) rows
+opened_again panel state rows e =
+    subst (λ (s : LentState). Opened panel (record { panel = s.panel; notes = s.notes; count = s.count }) rows) (sym e) (opened_lent panel rows)
+
 -- a fresh panel of which nothing was asked
 pub opened_kept : (m k : ℕ) (state : LentState) (rows : List RowHeld) → Opened (fresh_record m k) state rows → m ≤ length rows → Keeps (fresh_world m k) state (fresh_world m k).slots rows
 unfolding fresh_world fresh_log no_writer_notes

@@ -70,7 +70,7 @@ pub fn carry_out(
 }
 
 // The slots are lent beside it, and the list is in an array of its own.
-#[derive(Drop)]
+#[derive(Clone, Copy)]
 pub struct PanelState<const N: usize> {
     pub panel: Record,
     pub notes: Notes,
@@ -88,6 +88,17 @@ impl<const N: usize> PanelState<N> {
             notes: state.notes,
             list: Rows::new(),
         }
+    }
+
+    // The same in place of the panel that was there: a list is without a row whatever its entries hold, so that
+    // none of them is written.
+    pub fn open_anew(&mut self, panel: Record)
+        ensures { Opened panel (apart self.new) self.new.list.rows }
+    {
+        let again = opened(panel);
+        self.panel = again.panel;
+        self.notes = again.notes;
+        self.list.count = again.count;
     }
 
     // As `carry_out` does it, with the list's own entries.

@@ -65,7 +65,7 @@ pub fn feed(
 
 // The list in an array of its own: its rows are the first `count`, the newest last. That the array holds
 // them is no part of the type, since `feed` has an answer for a list that it does not hold.
-#[derive(Drop)]
+#[derive(Clone, Copy)]
 pub struct Rows<const N: usize> {
     pub rows: [Row; N],
     pub count: usize,

@@ -1,5 +1,5 @@
 -- Document 01, "Refusal table": the number and the word of each row.
-use Rattle.std.specs.Prelude.{ℕ, Result, Ok, Err, ⊤}
+use Rattle.std.specs.Prelude.{ℕ, List, ◌++◌, decimal, codes, Result, Ok, Err, ⊤}
 use Prim.Native.String.{String}
 use Rattle.refusal.specs.declared.Refusal.{Refusal}
 use Rattle.refusal.specs.declared.Refusal.TheVariants.{Misfit, Address, Reader, Engaged, Idle, NoPerch, Unknown, Length, Map, Station, Turn, Altered, Code, Short}
@@ -42,3 +42,7 @@ word_of Turn = "turn"
 word_of Altered = "altered"
 word_of Code = "code"
 word_of Short = "short"
+
+-- a row as it is shown: its number in decimal digits, a space, its word
+abbrev pub shown : Refusal → List ℕ
+shown r = decimal (number_of r) ++ codes " " ++ codes (word_of r)

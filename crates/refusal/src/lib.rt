@@ -1,8 +1,8 @@
 // Document 01's refusal table: one enum, the number and the word of each row.
 #![tactic(auto)]
 
-ghost use Rattle.std.specs.Prelude.{◌≡◌, codes};
-ghost use Rattle.refusal.specs.Refusals.{number_of, word_of};
+ghost use Rattle.std.specs.Prelude.{◌≡◌, Some, codes};
+ghost use Rattle.refusal.specs.Refusals.{number_of, word_of, shown};
 
 use std::fmt;
 
@@ -72,6 +72,8 @@ impl Refusal {
 
 // A refusal shows as its number and its word.
 impl fmt::Display for Refusal {
+    ghost output = { λ refusal. Some (shown refusal) };
+
     fn fmt<W: fmt::Write>(&self, f: &mut fmt::Formatter<W>) -> fmt::Result {
         write!(f, "{} {}", self.number(), self.word())
     }

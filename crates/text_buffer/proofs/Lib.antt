@@ -1,3 +1,3 @@
 mod DecimalLaws
 pub mod FillingLaws
-mod OutputLaws
+pub mod OutputLaws

@@ -1,5 +1,6 @@
 -- A buffer of bytes, of which the first are in use, and text put behind those.
-use Rattle.std.specs.Prelude.{ℕ, zero, suc, ◌+◌, ◌/◌, ◌%◌, cond, List, [], ◌∷◌, ◌++◌, leb, ltb, length, set, take}
+use Rattle.std.specs.Prelude.{ℕ, zero, suc, ◌+◌, ◌/◌, ◌%◌, cond, List, [], ◌∷◌, ◌++◌, Option, leb, ltb, length, set, take}
+use Rattle.std.specs.Io.KnownBytes.{append_known}
 
 -- how many bytes are in use, and all the bytes
 pub record Filled : Type 0 where
@@ -44,3 +45,7 @@ in_use used bytes = cond (leb used (length bytes)) (take used bytes) []
 -- what is written where room is made for a line: the bytes in use, or nothing where there is room
 unfoldable pub written_for_room : ℕ → List ℕ → ℕ → List ℕ
 written_for_room used bytes line = cond (ltb (used + line) (length bytes)) [] (in_use used bytes)
+
+-- all that was given to a writer behind a buffer: the bytes that the writer holds, where they are known, and those in use
+abbrev pub given_so_far : Option (List ℕ) → ℕ → List ℕ → Option (List ℕ)
+given_so_far held used bytes = append_known held (in_use used bytes)

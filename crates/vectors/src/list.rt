@@ -58,7 +58,7 @@ fn no_room(rt: &impl Print) -> io::Result<()> {
         Call::StepWriter,
     ] {
         let _ = state.carry_out(&mut slots, call, &[]);
-        println!(rt; "rows {} slots{}", state.list.held().len(), Words(&slots))?;
+        println!(rt; "rows {} slots{}", state.list.count, Words(&slots))?;
     }
     Ok(())
 }

@@ -36,10 +36,11 @@ fn count_added(panel: &Record, update: Update) -> Option<IndexCount>
 }
 
 // The steps of a put behind its search, within a budget in which it ends. The record was judged when the put was
-// started, and every step keeps it in range, so that no step needs to judge it again.
-fn steps(panel: Record, slots: &mut [u64], begun: WriterWork, budget: u64) -> Finished
-    requires { (in_range (length slots.old) (with_writer panel begun) ≡ true) × (is_putting begun ≡ true) × (is_underway (until_ended writer_step budget (outcome (with_writer panel begun) slots.old underway)).answer ≡ false) }
-    ensures { outcome (with_writer (leaves panel result.changes) Idle) slots.new (ended (paper_completion result.completion)) ≡ until_ended writer_step budget (outcome (with_writer panel begun) slots.old underway) }
+// started, and every step keeps it in range, so that no step needs to judge it again. It is lent, so that it is not
+// copied once more.
+fn steps(panel: &Record, slots: &mut [u64], begun: WriterWork, budget: u64) -> Finished
+    requires { (in_range (length slots.old) (with_writer panel.now begun) ≡ true) × (is_putting begun ≡ true) × (is_underway (until_ended writer_step budget (outcome (with_writer panel.now begun) slots.old underway)).answer ≡ false) }
+    ensures { outcome (with_writer (leaves panel.now result.changes) Idle) slots.new (ended (paper_completion result.completion)) ≡ until_ended writer_step budget (outcome (with_writer panel.now begun) slots.old underway) }
 {
     let mut reach = panel.reach;
     let mut work = begun;
@@ -55,7 +56,7 @@ fn steps(panel: Record, slots: &mut [u64], begun: WriterWork, budget: u64) -> Fi
             return Finished {
                 changes: Changes {
                     reach,
-                    count: count_added(&panel, next.update),
+                    count: count_added(panel, next.update),
                 },
                 completion: Completion {
                     ending,
@@ -87,7 +88,7 @@ pub fn whole_put(
     };
     let begun = put_answered(put, found.answer);
     let budget = step_bound(OperationKind::Put, panel.k);
-    let ran = steps(panel, slots, begun.work, budget);
+    let ran = steps(&panel, slots, begun.work, budget);
     Ok(Finished {
         changes: ran.changes.since(&panel),
         ..ran

@@ -23,7 +23,7 @@ loop-init c =
 
 pub unreachable-requires : goal.unreachable-requires
 unreachable-requires c =
-    putting_only _ (ap is_putting c.writer_counted.ensures ∙ counted_puts c.args.panel.k c.loop.work c.loop.invariant.1) c.in_default.not-Putting
+    putting_only _ (ap is_putting c.writer_counted.ensures ∙ counted_puts c.args.panel.now.k c.loop.work c.loop.invariant.1) c.in_default.not-Putting
 
 pub returns-in-Some : goal.returns-in-Some
 returns-in-Some c =
@@ -34,9 +34,9 @@ returns-in-Some c =
     let effect = c.put_advance-next in
     let answer = paper_ending c.in-Some.ending in
     let takes =
-    step_ends a.panel l.reach l.slots _ l.work c.in-Putting.put _ _ _ (paper_effect effect.result) way.holds c.in-Putting.ensures c.put_access-access.ensures c.slot_stored.ensures performed.0
+    step_ends a.panel.now l.reach l.slots _ l.work c.in-Putting.put _ _ _ (paper_effect effect.result) way.holds c.in-Putting.ensures c.put_access-access.ensures c.slot_stored.ensures performed.0
     performed.1 effect.ensures answer (ap paper_progress c.in-Some.is) in
-    (λ j. outcome (with_writer (leaves a.panel (record { reach = c.reach_after-reach.ensures j; count = c.count_added.ensures j })) Idle) c.perform-word.new.slots (ended (completed answer c.in-Putting.put.steps)))
+    (λ j. outcome (with_writer (leaves a.panel.now (record { reach = c.reach_after-reach.ensures j; count = c.count_added.ensures j })) Idle) c.perform-word.new.slots (ended (completed answer c.in-Putting.put.steps)))
     ∙ arrives writer_step AtWork stays_at_work _ a.budget l.counter _ way refl (omega (arith, c.loop-test.true)) _ takes refl
 
 pub loop-preserved : goal.loop-preserved
@@ -47,9 +47,9 @@ loop-preserved c =
     let performed = c.perform-word.ensures in
     let effect = c.put_advance-next in
     let goes =
-    step_goes a.panel l.reach l.slots _ l.work c.in-Putting.put _ _ _ (paper_effect effect.result) way.holds c.in-Putting.ensures c.put_access-access.ensures c.slot_stored.ensures performed.0
+    step_goes a.panel.now l.reach l.slots _ l.work c.in-Putting.put _ _ _ (paper_effect effect.result) way.holds c.in-Putting.ensures c.put_access-access.ensures c.slot_stored.ensures performed.0
     performed.1 effect.ensures (ap paper_progress c.in_default-progress.is) in
-    let takes = goes.0 ∙ (λ j. outcome (with_writer (with_reach a.panel (sym c.reach_after-reach.ensures j)) effect.result.work) c.perform-word.new.slots underway) in
+    let takes = goes.0 ∙ (λ j. outcome (with_writer (with_reach a.panel.now (sym c.reach_after-reach.ensures j)) effect.result.work) c.perform-word.new.slots underway) in
     (steps_on writer_step AtWork stays_at_work _ a.budget l.counter _ way refl (omega (arith, c.loop-test.true)) _ takes, goes.1)
 
 pub unreachable-requires-2 : goal.unreachable-requires-2

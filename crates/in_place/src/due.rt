@@ -40,15 +40,17 @@ fn reader_seen(before: Seen, reader: Reader, m: u32, k: u32) -> Seen
 fn readers_seen(panel: &Record) -> Seen
     ensures { (result.fit ≡ readers_in_range panel.now.m panel.now.k panel.now.readers) × (result.marks ≡ marked_behind 0 panel.now.readers) }
 {
+    let m = panel.m;
+    let k = panel.k;
     let mut seen = Seen {
         fit: true,
         marks: 0,
     };
     let mut i = 0;
     while i < 16 {
-        seen = reader_seen(seen, panel.readers[i], panel.m, panel.k);
+        seen = reader_seen(seen, panel.readers[i], m, k);
         i += 1;
-        seen = reader_seen(seen, panel.readers[i], panel.m, panel.k);
+        seen = reader_seen(seen, panel.readers[i], m, k);
         i += 1;
     }
     seen
@@ -59,7 +61,7 @@ fn readers_seen(panel: &Record) -> Seen
 pub(crate) fn due_at(panel: &Record, lent: usize) -> u32
     ensures { result ≡ due_by (in_range lent panel.now) panel.now.place panel.now.writer.work (marked_behind 0 panel.now.readers) }
 {
-    // copied once for the two that take it
+    // read once, for the two that take it
     let writer = panel.writer;
     let counts = are_counts_in_range(&panel.counts, panel.m, panel.k);
     let seen = readers_seen(panel);

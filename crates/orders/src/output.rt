@@ -41,8 +41,8 @@ impl<W: Write + Drop> Output<W> {
 }
 
 impl<W: Write + Drop> Write for Output<W> {
-    // Takes what has room. Where a line begins, room is made for all of it, so that what is written ends with a
-    // line; behind that only a line that is longer than any makes room for itself.
+    // Takes what has room. Room for a whole line is made where one begins, so that what is written ends with a line;
+    // a line of more bytes would be cut where the buffer is full.
     fn write(&mut self, bytes: &[u8]) -> io::Result<usize>
         ensures bound { WritesAtMost result bytes.now }
         ensures given { IfOk result (λ count. Appends (given_so_far (W.contents self.old.to) self.old.text.used self.old.text.bytes) (given_so_far (W.contents self.new.to) self.new.text.used self.new.text.bytes) (take count bytes.now)) }

@@ -110,7 +110,7 @@ impl fmt::Display for Asked<'_> {
             Call::StartRemoval { point } => write!(f, "remove {point}"),
             Call::StartCommand => {
                 f.write_str("command")?;
-                // `{byte:02X}` takes some three times as long
+                // one text for 32 bytes: with `{byte:02X}` for each, the line takes 1.8 times the instructions
                 for bytes in self.frame.chunks(32) {
                     let mut text = TextBuffer::<96>::new();
                     for byte in bytes {
